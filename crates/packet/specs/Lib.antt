@@ -1,0 +1,4 @@
+pub mod Syntax
+pub mod Header
+pub mod Counter
+pub mod Payload
