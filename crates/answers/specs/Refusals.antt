@@ -1,11 +1,12 @@
 -- The number of each refusal.
 use Prim.Native.Nat.{ℕ}
-use Rattle.answers.specs.Numbers.{packetSize, noSyncByte, noPayload, payloadEmpty, payloadBeyond, under3Bytes, under8Bytes, sectionUnder12, noAdaptationField, adaptationFieldLength, flagClear, fieldEndsBefore, walkAtEnd, noEntryFits, positionAboveLength}
+use Rattle.answers.specs.Numbers.{packetSize, noSyncByte, bufferSize, noPayload, payloadEmpty, payloadBeyond, under3Bytes, under8Bytes, sectionUnder12, noAdaptationField, adaptationFieldLength, flagClear, fieldEndsBefore, walkAtEnd, noEntryFits, stateNotSound, positionAboveLength}
 use Rattle.answers.specs.declared.Refusal.{Refusal}
 
 abbrev pub numberOf : Refusal → ℕ
 numberOf Refusal.PacketSize = packetSize
 numberOf Refusal.NoSyncByte = noSyncByte
+numberOf Refusal.BufferSize = bufferSize
 numberOf Refusal.NoPayload = noPayload
 numberOf Refusal.PayloadEmpty = payloadEmpty
 numberOf Refusal.PayloadBeyond = payloadBeyond
@@ -18,4 +19,5 @@ numberOf Refusal.FlagClear = flagClear
 numberOf Refusal.FieldEndsBefore = fieldEndsBefore
 numberOf Refusal.WalkAtEnd = walkAtEnd
 numberOf Refusal.NoEntryFits = noEntryFits
+numberOf Refusal.StateNotSound = stateNotSound
 numberOf Refusal.PositionAboveLength = positionAboveLength

@@ -60,10 +60,12 @@ impl Answer {
     pub const POSITION_ABOVE_LENGTH: u8 = 26;
 }
 
-// Why a call on bytes gives nothing of what was asked. (22 tells two lengths and is a case of the PMT's own answer.)
+// Why a call gives nothing of what was asked: the rows that a call answers as a case of an enum. (22 tells two lengths and is a case of the PMT's own
+// answer; a step answers the other rows as numbers.)
 pub enum Refusal {
     PacketSize,
     NoSyncByte,
+    BufferSize,
     NoPayload,
     PayloadEmpty,
     PayloadBeyond,
@@ -76,6 +78,7 @@ pub enum Refusal {
     FieldEndsBefore,
     WalkAtEnd,
     NoEntryFits,
+    StateNotSound,
     PositionAboveLength,
 }
 
@@ -87,6 +90,7 @@ impl Refusal {
         match self {
             Refusal::PacketSize => Answer::PACKET_SIZE,
             Refusal::NoSyncByte => Answer::NO_SYNC_BYTE,
+            Refusal::BufferSize => Answer::BUFFER_SIZE,
             Refusal::NoPayload => Answer::NO_PAYLOAD,
             Refusal::PayloadEmpty => Answer::PAYLOAD_EMPTY,
             Refusal::PayloadBeyond => Answer::PAYLOAD_BEYOND,
@@ -99,6 +103,7 @@ impl Refusal {
             Refusal::FieldEndsBefore => Answer::FIELD_ENDS_BEFORE,
             Refusal::WalkAtEnd => Answer::WALK_AT_END,
             Refusal::NoEntryFits => Answer::NO_ENTRY_FITS,
+            Refusal::StateNotSound => Answer::STATE_NOT_SOUND,
             Refusal::PositionAboveLength => Answer::POSITION_ABOVE_LENGTH,
         }
     }

@@ -9,6 +9,7 @@ use Rattle.packet.specs.declared.Payload.{Payload}
 use Rattle.packet.proofs.ContinuityCounter.follows.Reads as follows
 use Rattle.packet.proofs.Packet.header.Reads as header
 use Rattle.packet.proofs.Packet.payload.Reads as payload
+use Rattle.packet.proofs.Payload.number.Reads as number
 
 one-header : (x y : HeaderAnswer) → headerSays x ≡ headerSays y → x ≡ y
 one-header (HeaderAnswer.Is h) (HeaderAnswer.Is k) e = ap HeaderAnswer.Is (same-values e)
@@ -30,3 +31,6 @@ header-determined κs arguments x y x-exit y-exit p q = one-header x y (p ∙ sy
 
 pub payload-determined : Determines payload.Post
 payload-determined κs arguments x y x-exit y-exit p q = one-payload x y (p ∙ sym q)
+
+pub number-determined : Determines number.Post
+number-determined κs arguments x y x-exit y-exit p q = p ∙ sym q

@@ -59,6 +59,18 @@ impl ContinuityCounter {
     }
 }
 
+impl Payload {
+    // Document 01's number of this answer: 0 for a place.
+    pub fn number(self) -> u8
+        ensures { λ r. ⌜ r ≡ payloadSays self .number ⌝ }
+    {
+        match self {
+            Payload::At(_) => 0,
+            Payload::Refused(refusal) => refusal.number(),
+        }
+    }
+}
+
 // A payload that starts there.
 fn starting_at(start: usize) -> Payload
     ensures { λ r. ⌜ payloadSays r ≡ startingAt start ⌝ }

@@ -36,9 +36,13 @@ unfolding payloadBehind if_then_else_ size behind width
 returns-2 c =
     let start = c .before .before .before .before .before in
     let byte = c .before .word in
-    simp
-    (← start .pre .1, ne-eqb _ _ (c .before .before .before .if1 .left), eq-eqb _ _ (c .before .before .if2 .taken),
-    field-of-word adaptationFieldLength (now (start .args .packet)) 4 1 (byte .result) (omega arith) refl (byte .ensures), div-one)
+    simp (
+      ← start .pre .1,
+      ne-eqb _ _ (c .before .before .before .if1 .left),
+      eq-eqb _ _ (c .before .before .if2 .taken),
+      field-of-word adaptationFieldLength (now (start .args .packet)) 4 1 (byte .result) (omega arith) refl (byte .ensures),
+      div-one,
+    )
     (c .starting-at2 .ensures)
 
 returns-3 : tie.Need-returns-3
