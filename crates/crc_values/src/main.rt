@@ -1,0 +1,131 @@
+// Compares sum32 with the values of a list that tests/crc/make-values made, and says how many were compared and which differ.
+// The list is vector after vector: the number of bytes, the bytes, their CRC. Numbers have four bytes, most significant first.
+use libc::STDIN_FILENO;
+use libc::STDOUT_FILENO;
+ghost use mathlib.Core.Path.{_≡_};
+ghost use Prim.Native.Nat.{_+_, _≤_, _<_};
+ghost use lib.ListN.{length};
+
+// How far the list was compared.
+struct Tally {
+    at: usize,
+    compared: usize,
+    differ: usize,
+    cut_short: bool,
+}
+
+const ROOM: usize = 131072;
+
+fn main() {
+    let mut list = [0u8; ROOM];
+    let size = io::read_full(STDIN_FILENO, &mut list);
+    if size == ROOM {
+        say(b"The list is too long for this program.\n");
+        return;
+    }
+    compare_all(&list[..size]);
+}
+
+fn compare_all(list: &[u8]) {
+    let mut tally = Tally {
+        at: 0,
+        compared: 0,
+        differ: 0,
+        cut_short: false,
+    };
+    while tally.at < list.len() {
+        tally = compare_next(list, tally);
+    }
+    say_tally(tally);
+}
+
+// Compares the vector at the tally's place, and goes on behind it.
+fn compare_next(list: &[u8], tally: Tally) -> Tally
+    requires { ⌜ tally .at < length (now list) ⌝ }
+    requires { ⌜ (tally .compared ≤ tally .at) × (tally .differ ≤ tally .compared) ⌝ }
+    ensures { λ r. ⌜ (tally .at < r .at) × (r .at ≤ length (now (list .entry))) ⌝ }
+    ensures { λ r. ⌜ (r .compared ≤ r .at) × (r .differ ≤ r .compared) ⌝ }
+{
+    let at = tally.at;
+    let left = list.len() - at;
+    if left < 8 {
+        return cut_short(list.len(), tally);
+    }
+    let count = number(list, at) as usize;
+    if left - 8 < count {
+        return cut_short(list.len(), tally);
+    }
+    let from = at + 4;
+    let to = from + count;
+    let compared = tally.compared + 1;
+    let differs = compare(
+        compared,
+        mpegts_crc::sum32(&list[from..to]),
+        number(list, to),
+    );
+    Tally {
+        at: to + 4,
+        compared: compared,
+        differ: tally.differ + differs,
+        cut_short: false,
+    }
+}
+
+fn cut_short(size: usize, tally: Tally) -> Tally
+    ensures { λ r. ⌜ (r .at ≡ size) × (r .compared ≡ tally .compared) × (r .differ ≡ tally .differ) ⌝ }
+{
+    Tally {
+        at: size,
+        compared: tally.compared,
+        differ: tally.differ,
+        cut_short: true,
+    }
+}
+
+// 1 where the two differ, and then it says so.
+fn compare(vector: usize, found: u32, listed: u32) -> usize
+    ensures { λ r. ⌜ r < 2 ⌝ }
+{
+    if found == listed {
+        return 0;
+    }
+    say(b"Vector ");
+    say_number(vector);
+    say(b": ");
+    io::print_hex(STDOUT_FILENO, found as u64, 8);
+    say(b", and the list has ");
+    io::print_hex(STDOUT_FILENO, listed as u64, 8);
+    say(b".\n");
+    1
+}
+
+fn number(list: &[u8], at: usize) -> u32
+    requires { ⌜ at + 4 ≤ length (now list) ⌝ }
+{
+    (wide(list[at]) << 24)
+        | (wide(list[at + 1]) << 16)
+        | (wide(list[at + 2]) << 8)
+        | wide(list[at + 3])
+}
+
+fn wide(byte: u8) -> u32 {
+    byte as u32
+}
+
+fn say_tally(tally: Tally) {
+    if tally.cut_short {
+        say(b"The list is cut short.\n");
+    }
+    say_number(tally.compared);
+    say(b" compared, ");
+    say_number(tally.differ);
+    say(b" differ.\n");
+}
+
+fn say(text: &[u8]) {
+    io::write_all(STDOUT_FILENO, text);
+}
+
+fn say_number(n: usize) {
+    io::print_decimal(STDOUT_FILENO, n as u64);
+}

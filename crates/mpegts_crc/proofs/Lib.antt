@@ -1,0 +1,6 @@
+pub mod Xor
+pub mod Steps
+pub mod Table
+pub mod Bytes
+pub mod Remainder
+pub mod Determined
