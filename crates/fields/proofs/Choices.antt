@@ -1,5 +1,5 @@
 -- What a choice says of its test, and a test of its choice. Assumes nothing.
-use mathlib.Core.Path.{_≡_, refl}
+use mathlib.Core.Path.{_≡_, refl, _∙_}
 use mathlib.Core.Bool.{Bool, true, false, false≢true, true≢false}
 use Rattle.fields.specs.Choice.{if_then_else_, _and_}
 
@@ -44,3 +44,7 @@ pub and-holds : (t u : Bool) → (t and u) ≡ true → (t ≡ true) × (u ≡ t
 unfolding if_then_else_
 and-holds true u h = (refl, h)
 and-holds false u h = absurd (false≢true h)
+
+pub both-hold : (t u : Bool) → t ≡ true → u ≡ true → (t and u) ≡ true
+unfolding if_then_else_
+both-hold t u h k = test-holds t u false h ∙ k

@@ -1,11 +1,11 @@
 -- Laws of bytes laid into a list. Assumes nothing.
-use Prim.Native.Nat.{ℕ, _+_, _≤_}
-use mathlib.Core.Path.{_≡_, ap, _∙_}
+use Prim.Native.Nat.{ℕ, _+_, _<_, _≤_}
+use mathlib.Core.Path.{_≡_, sym}
 use mathlib.Core.List.{List, [], _∷_, _++_, append-assoc}
 use native.Mathlib.Omega.{arith}
-use native.Mathlib.Nat.{add-zero}
-use lib.ListN.{length, take, drop, length-take, length-drop, length-append}
-use lib.Seq.{take-at, drop-at}
+use native.Mathlib.Numerals.{add-one}
+use lib.ListN.{length, getD, set, take, drop, length-take, length-drop, length-append}
+use lib.Seq.{length-take-le, take-at, drop-at, paste-zero, paste-suc}
 use Rattle.fields.specs.Laid.{laid}
 
 module _ (list : List ℕ) (at : ℕ) (bytes : List ℕ) (fits : at + length bytes ≤ length list) where
@@ -32,3 +32,17 @@ module _ (list : List ℕ) (at : ℕ) (bytes : List ℕ) (fits : at + length byt
   pub laid-behind : drop (at + length bytes) (laid list at bytes) ≡ drop (at + length bytes) list
   unfolding laid
   laid-behind = drop-at (take at list ++ bytes) (drop (at + length bytes) list) (at + length bytes) front
+
+-- no bytes laid in change nothing
+pub laid-none : (list : List ℕ) (at : ℕ) → laid list at [] ≡ list
+unfolding laid
+laid-none list at = sym (paste-zero list at [])
+
+-- one byte more is laid behind those that are
+pub laid-one-more : (list : List ℕ) (at : ℕ) (bytes : List ℕ) (i : ℕ) → at + i < length list → i < length bytes
+    → set (laid list at (take i bytes)) (at + i) (getD bytes i 0) ≡ laid list at (take (i + 1) bytes)
+unfolding laid
+laid-one-more list at bytes i h k =
+    let l : length (take i bytes) ≡ i = length-take-le i bytes (omega arith) in
+    let m : length (take (i + 1) bytes) ≡ i + 1 = length-take-le (i + 1) bytes (omega arith) in
+    rw (l, m) (rw add-one (paste-suc list at bytes i 0 h k))

@@ -1,0 +1,4 @@
+pub mod Programs
+pub mod Walk
+pub mod Determined
+pub mod Cases

@@ -1,0 +1,3 @@
+pub mod Syntax
+pub mod Programs
+pub mod Cases

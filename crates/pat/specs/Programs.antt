@@ -1,0 +1,48 @@
+-- The programs of a PAT's body: document 01, "Sections, CRC, PAT, PMT".
+use Prim.Native.Nat.{ℕ}
+use mathlib.Core.List.{List}
+use lib.ListN.{length}
+use Rattle.fields.specs.Choice.{if_then_else_, _is_, _isAtMost_}
+use Rattle.fields.specs.SyntaxTable.{field}
+use Rattle.answers.specs.Says.{Says, given, refused}
+use Rattle.answers.specs.Refusals.{numberOf}
+use Rattle.psi.specs.Walk.{Kind, Found, nothing, foundAt, entriesIn, leftBehind}
+use Rattle.pat.specs.Syntax.{networkEntry, programEntry}
+use Rattle.pat.specs.declared.ProgramDescriptor.{ProgramDescriptor}
+use Rattle.pat.specs.declared.ProgramDescriptor.the-variants.{Network, Program}
+use Rattle.pat.specs.declared.ProgramAnswer.{ProgramAnswer}
+
+-- "program number, 3 bits skipped, PID; number 0 means network"
+unfoldable pub programOf : List ℕ → ProgramDescriptor
+programOf entry =
+    if field programEntry "program_number" entry is 0 then Network (field networkEntry "network_PID" entry)
+    else Program (field programEntry "program_number" entry) (field programEntry "program_map_PID" entry)
+
+-- "PAT entry: 4 bytes"; "One to three bytes left: 24", since none fits
+abbrev pub programKind : Kind ProgramDescriptor
+programKind =
+    record {
+      fits = λ bytes. 4 isAtMost length bytes;
+      size = λ bytes. 4;
+      entry = λ position bytes. programOf bytes;
+      none = Network 0;
+    }
+
+-- the number and the values of each case of the answer
+abbrev pub programSays : ProgramAnswer → Says (Found ProgramDescriptor)
+programSays (ProgramAnswer.Is program next) = given (record { entry = program; next = next })
+programSays (ProgramAnswer.Refused refusal) = refused (numberOf refusal) (nothing programKind)
+
+-- "Walks take a body and a position"
+abbrev pub programAt : List ℕ → ℕ → Says (Found ProgramDescriptor)
+programAt body position = foundAt programKind body position
+
+-- ---- the loop of program_association_section(): for (i = 0; i < N; i++) { program_number .. }
+
+-- the programs that it lists, one behind the other from the body's first byte on; there are no more of them than bytes
+abbrev pub programs : List ℕ → List ProgramDescriptor
+programs body = entriesIn programKind (length body) 0 body
+
+-- the bytes behind the last of them
+abbrev pub behindPrograms : List ℕ → List ℕ
+behindPrograms body = leftBehind programKind (length body) body

@@ -1,0 +1,5 @@
+pub mod Starts
+pub mod Streams
+pub mod Walk
+pub mod Determined
+pub mod Cases

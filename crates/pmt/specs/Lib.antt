@@ -1,0 +1,4 @@
+pub mod Syntax
+pub mod Start
+pub mod Streams
+pub mod Cases

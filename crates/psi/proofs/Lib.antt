@@ -1,0 +1,4 @@
+pub mod Sections
+pub mod Walks
+pub mod Determined
+pub mod Cases

@@ -1,0 +1,6 @@
+pub mod Syntax
+pub mod Header
+pub mod Place
+pub mod Body
+pub mod Walk
+pub mod Cases
