@@ -1,8 +1,9 @@
 -- Laws of bytes laid into a list. Assumes nothing.
 use Prim.Native.Nat.{ℕ, _+_, _<_, _≤_}
-use mathlib.Core.Path.{_≡_, sym}
+use mathlib.Core.Path.{_≡_, sym, ap, _∙_}
 use mathlib.Core.List.{List, [], _∷_, _++_, append-assoc}
 use native.Mathlib.Omega.{arith}
+use native.Mathlib.Nat.{zero-add}
 use native.Mathlib.Numerals.{add-one}
 use lib.ListN.{length, getD, set, take, drop, length-take, length-drop, length-append}
 use lib.Seq.{length-take-le, take-at, drop-at, paste-zero, paste-suc}
@@ -46,3 +47,8 @@ laid-one-more list at bytes i h k =
     let l : length (take i bytes) ≡ i = length-take-le i bytes (omega arith) in
     let m : length (take (i + 1) bytes) ≡ i + 1 = length-take-le (i + 1) bytes (omega arith) in
     rw (l, m) (rw add-one (paste-suc list at bytes i 0 h k))
+
+-- bytes laid in from the front on stand there
+pub laid-at-front : (list bytes : List ℕ) → length bytes ≤ length list → take (length bytes) (laid list 0 bytes) ≡ bytes
+laid-at-front list bytes fits =
+    ap (λ (n : ℕ). take n (laid list 0 bytes)) (sym (zero-add (length bytes))) ∙ laid-up-to-end list 0 bytes (omega arith)

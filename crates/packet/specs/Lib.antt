@@ -2,3 +2,4 @@ pub mod Syntax
 pub mod Header
 pub mod Counter
 pub mod Payload
+pub mod Cases

@@ -1,9 +1,8 @@
 // A transport packet: its header, its counter, and where its payload lies. The crate's src/packet.rs.
 ghost use mathlib.Core.Path.{_≡_};
-ghost use Rattle.packet.specs.Header.{headerSays, headerOf};
 ghost use Rattle.packet.specs.Counter.{followsOf};
 ghost use Rattle.packet.specs.Payload.{controlOf, payloadSays, startingAt, payloadBehind, payloadOf};
-ghost use Rattle.packet.specs.Header.{size};
+ghost use Rattle.packet.specs.Header.{size, headerSays, headerOf};
 ghost use lib.ListN.{length};
 use answers::Refusal;
 use fields::word;
@@ -39,11 +38,15 @@ pub enum Payload {
 impl Pid {
     pub const MAX_VALUE: u16 = 0x1fff;
 
+    pub const PID_COUNT: u64 = Pid::MAX_VALUE as u64 + 1;
+
     pub const PAT: u16 = 0;
 }
 
 impl ContinuityCounter {
     pub const MAX_VALUE: u8 = 15;
+
+    pub const COUNT: u8 = ContinuityCounter::MAX_VALUE + 1;
 
     // Whether `counter` follows `other`. No, where one of them is no counter: the Rust asserts there.
     pub fn follows(counter: u8, other: u8) -> bool
@@ -55,7 +58,7 @@ impl ContinuityCounter {
         if ContinuityCounter::MAX_VALUE < other {
             return false;
         }
-        counter == (other + 1) % 16
+        counter == (other + 1) % ContinuityCounter::COUNT
     }
 }
 
@@ -117,7 +120,7 @@ impl Packet {
             transport_error_indicator: (bits >> 23) % 2 == 1,
             payload_unit_start_indicator: (bits >> 22) % 2 == 1,
             transport_priority: (bits >> 21) % 2 == 1,
-            pid: ((bits >> 8) % 8192) as u16,
+            pid: ((bits >> 8) % Pid::PID_COUNT) as u16,
             transport_scrambling_control: ((bits >> 6) % 4) as u8,
             adaptation_field_control: ((bits >> 4) % 4) as u8,
             continuity_counter: (bits % 16) as u8,

@@ -1,0 +1,4 @@
+pub mod AdaptationFields
+pub mod Parts
+pub mod Cases
+pub mod Determined

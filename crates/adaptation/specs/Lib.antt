@@ -1,0 +1,4 @@
+pub mod Syntax
+pub mod AdaptationField
+pub mod Parts
+pub mod Cases
