@@ -1,7 +1,7 @@
 -- What the calls on a section say of its bytes. Assumes nothing.
 use Prim.Native.Nat.{ℕ, _+_, _-_, _/_, _%_, _^_, _≤_, _<_}
 use Prim.Native.String.{String}
-use mathlib.Core.Path.{_≡_, refl, sym, ap₂, _∙_}
+use mathlib.Core.Path.{_≡_, refl, sym, ap, ap₂, _∙_}
 use mathlib.Core.List.{List, _++_}
 use native.Mathlib.Omega.{arith}
 use borrow.Author.Tests.{ltb-true, ltb-false}
@@ -11,14 +11,14 @@ use Rattle.fields.specs.Choice.{if_then_else_, _isBelow_}
 use Rattle.fields.specs.SyntaxTable.{size, offset, width, behind, valueOf}
 use Rattle.fields.specs.Word.{wordOf}
 use Rattle.fields.proofs.Choices.{first-chosen, second-chosen}
-use Rattle.fields.proofs.BitStrings.{number-at-lt}
+use Rattle.fields.proofs.BitStrings.{number-at-lt, number-at-front}
 use Rattle.fields.proofs.SyntaxTables.{field-of-word}
 use Rattle.answers.specs.Says.{Says, given, refused}
 use Rattle.answers.specs.Refusals.{numberOf}
 use Rattle.answers.specs.declared.Refusal.{Refusal}
 use Rattle.answers.proofs.Saying.{same-values, same-refusal, given-is-not-refused}
 use Rattle.psi.specs.Syntax.{sectionHeader, tableHeader}
-use Rattle.psi.specs.Header.{sectionLength, versionNumber, fieldsOf, noHeader, headerOf, tableFieldsOf, noTableHeader, tableHeaderOf}
+use Rattle.psi.specs.Header.{sectionLength, wanted, versionNumber, fieldsOf, noHeader, headerOf, tableFieldsOf, noTableHeader, tableHeaderOf}
 use Rattle.psi.specs.Place.{fromUpTo, noPlace, partAt}
 use Rattle.psi.specs.Body.{bodyOf}
 use Rattle.psi.specs.declared.Place.{Place}
@@ -47,6 +47,11 @@ section-length-below-4096 bytes l = number-at-lt bytes 12 12 (omega arith)
 pub version-number-below-32 : (section : List ℕ) → 8 ≤ length section → versionNumber section < 32
 unfolding valueOf offset width if_then_else_
 version-number-below-32 section l = number-at-lt (drop 3 section) 18 5 (simp length-drop (omega arith))
+
+-- three bytes tell how many a section has, whatever follows them
+pub wanted-by-front : (bytes behind : List ℕ) → 3 ≤ length bytes → wanted (bytes ++ behind) ≡ wanted bytes
+unfolding valueOf offset width if_then_else_
+wanted-by-front bytes behind l = ap (λ (n : ℕ). 3 + n) (number-at-front bytes behind 12 12 (omega arith))
 
 -- ---- a call that refuses fewer than n bytes
 
