@@ -1,0 +1,249 @@
+-- A sound state and a buffer of 1,024 bytes stay so through both steps, and a step on them answers neither 5 nor 25. Assumes nothing.
+use Prim.Native.Nat.{ℕ, _+_, _-_, _≤_, _<_}
+use mathlib.Core.Path.{_≡_, refl, sym, ap, _∙_, subst}
+use mathlib.Core.Bool.{Bool, true, false}
+use mathlib.Core.List.{List, [], _∷_}
+use native.Mathlib.Omega.{arith}
+use lib.ListN.{length, take, drop, length-take, length-drop}
+use borrow.Author.Tests.{eq-eqb, eqb-true, eqb-false, le-leb, lt-ltb, ltb-true, leb-false}
+use Rattle.fields.specs.Choice.{if_then_else_, _is_, _isBelow_, _isAtMost_}
+use Rattle.fields.specs.Laid.{laid}
+use Rattle.fields.proofs.Choices.{test-holds, and-holds, of-both, of-either}
+use Rattle.fields.proofs.LaidBytes.{laid-length}
+use Rattle.answers.specs.Says.{Says, given, refused}
+use Rattle.packet.specs.Header.{ofAPacket}
+use Rattle.packet.specs.Payload.{startingAt, payloadBehind}
+use Rattle.psi.specs.Header.{wanted, versionNumber}
+use Rattle.psi.proofs.Sections.{version-number-below-32}
+use Rattle.reader.specs.State.{leastHeld, noMemory, soundMemory, soundCounts, sound, idle, opened, fresh}
+use Rattle.reader.specs.Outcome.{Outcome, outcome, answered, forgotten, inBuffer, inPacket}
+use Rattle.reader.specs.Checks.{checked, fromAPlace, fromThePayload}
+use Rattle.reader.specs.Pointer.{unitStart, pointer, rest, pointsBeyond}
+use Rattle.reader.specs.Whole.{crcVerdict, verdict, whole}
+use Rattle.reader.specs.Tail.{copied, filled, continued, tailFrom, tailOf}
+use Rattle.reader.specs.Head.{atStart, startRefusal, begun, afterRefusal, started, headFrom, headOf}
+use Rattle.reader.specs.Run.{NotTheHosts, EveryStep, Worked, worked, run}
+use Rattle.reader.specs.declared.Form.{Form}
+use Rattle.reader.specs.declared.Memory.{Memory}
+use Rattle.reader.specs.declared.Place.{Place}
+use Rattle.reader.specs.declared.Reader.{Reader}
+use Rattle.reader.specs.declared.Step.{Step}
+use Rattle.reader.proofs.Soundness.{open-sound}
+use Rattle.reader.proofs.Checking.{passed}
+use Rattle.reader.proofs.Starts.{Starts, starts}
+
+another : (n : ℕ) → (n is 5) ≡ false → (n is 25) ≡ false → NotTheHosts n
+another n e f = record { not5 = eqb-false n 5 e; not25 = eqb-false n 25 f }
+
+-- what a step keeps
+pub record Keeps (left : Outcome) : Type 0 where
+  pub soundState : sound (left .step .reader) ≡ true
+  pub lent : length (left .buffer) ≡ 1024
+  pub answers : NotTheHosts (left .step .answer)
+
+-- ---- sound states
+
+pub memory-sound : (reader : Reader) → sound reader ≡ true → soundMemory (reader .form) (reader .memory) ≡ true
+unfolding sound
+memory-sound reader h = and-holds _ _ h .0
+
+pub nothing-remembered-sound : (form : Form) → soundMemory form noMemory ≡ true
+unfolding soundMemory if_then_else_
+nothing-remembered-sound form = refl
+
+pub idle-sound : (form : Form) (memory : Memory) → soundMemory form memory ≡ true → sound (idle form memory) ≡ true
+unfolding sound soundCounts if_then_else_
+idle-sound form memory h = simp h
+
+pub opened-sound : (form : Form) (memory : Memory) (held wanted : ℕ) → soundMemory form memory ≡ true
+    → leastHeld form ≤ held → held < wanted → wanted ≤ 1024 → sound (opened form memory held wanted) ≡ true
+unfolding sound soundCounts if_then_else_
+opened-sound form memory held wanted h least below fits = simp (h, le-leb _ _ least, lt-ltb _ _ below, le-leb _ _ fits)
+
+-- "A fresh state is idle, sound"
+pub fresh-sound : (form : Form) → sound (fresh form) ≡ true
+fresh-sound form = idle-sound form noMemory (nothing-remembered-sound form)
+
+-- ---- the steps, from their ends to their starts
+
+crc-verdict-answers : (section : List ℕ) → NotTheHosts (crcVerdict section)
+unfolding crcVerdict
+crc-verdict-answers section =
+    of-both NotTheHosts _ _ _ (another 16 refl refl) (of-both NotTheHosts _ _ _ (another 2 refl refl) (another 17 refl refl))
+
+verdict-answers : (form : Form) (section : List ℕ) → NotTheHosts (verdict form section)
+unfolding verdict
+verdict-answers Form.Compact section = another 2 refl refl
+verdict-answers Form.Full section = crc-verdict-answers section
+verdict-answers Form.Once section = crc-verdict-answers section
+
+whole-keeps : (form : Form) (memory : Memory) (place : Place) (section buffer : List ℕ) → soundMemory form memory ≡ true → length buffer ≡ 1024
+    → Keeps (outcome (whole form memory place section) buffer)
+unfolding whole
+whole-keeps form memory place section buffer h l =
+    of-both (λ (step : Step). Keeps (outcome step buffer)) _ _ _
+    (record { soundState = idle-sound form memory h; lent = l; answers = another 2 refl refl })
+    (record { soundState = idle-sound form memory h; lent = l; answers = verdict-answers form section })
+
+module _ (reader : Reader) (buffer : List ℕ) (isSound : sound reader ≡ true) (lent : length buffer ≡ 1024) where
+  -- an answer that leaves the state as it was, and one that forgets it
+  same-keeps : (n : ℕ) → NotTheHosts n → Keeps (outcome (answered n reader) buffer)
+  same-keeps n h = record { soundState = isSound; lent = lent; answers = h }
+
+  idle-keeps : (n : ℕ) (memory : Memory) → soundMemory (reader .form) memory ≡ true → NotTheHosts n
+      → Keeps (outcome (answered n (idle (reader .form) memory)) buffer)
+  idle-keeps n memory m h = record { soundState = idle-sound (reader .form) memory m; lent = lent; answers = h }
+
+  continued-keeps : (bytes : List ℕ) → Keeps (continued reader bytes buffer)
+  unfolding continued
+  continued-keeps bytes =
+      of-either Keeps _ _ _
+      (λ isOpen.
+      let o = open-sound reader isSound isOpen in
+      let m = memory-sound reader isSound in
+      let few : length (copied reader bytes) ≤ reader .wanted - reader .held = simp length-take (omega arith) in
+      let l : length (filled reader bytes buffer) ≡ 1024 = laid-length buffer (reader .held) (copied reader bytes) (omega arith) ∙ lent in
+      of-either Keeps _ _ _
+      (λ wants.
+      let below = ltb-true (reader .held + length (copied reader bytes)) (reader .wanted) wants in
+      record {
+        soundState = opened-sound (reader .form) (reader .memory) _ (reader .wanted) m (omega (arith, o .least)) below (o .fits);
+        lent = l;
+        answers = another 1 refl refl;
+      })
+      (λ enough. whole-keeps (reader .form) (reader .memory) _ _ _ m l))
+      (λ isIdle. idle-keeps 15 (reader .memory) (memory-sound reader isSound) (another 15 refl refl))
+
+  tail-from-keeps : (packet payload : List ℕ) → Keeps (tailFrom reader packet payload buffer)
+  unfolding tailFrom
+  tail-from-keeps packet payload =
+      of-either Keeps _ _ _
+      (λ unit. of-either Keeps _ _ _ (λ none. same-keeps 0 (another 0 refl refl))
+      (λ some. of-either Keeps _ _ _
+      (λ beyond. idle-keeps 9 noMemory (nothing-remembered-sound (reader .form)) (another 9 refl refl))
+      (λ within. continued-keeps _)))
+      (λ none. continued-keeps payload)
+
+-- ---- the head
+
+at-start-sound : (form : Form) (memory : Memory) (bytes : List ℕ) → soundMemory form memory ≡ true → leastHeld form ≤ length bytes
+    → soundMemory form (atStart form memory bytes) ≡ true
+unfolding atStart soundMemory if_then_else_
+at-start-sound Form.Compact memory bytes h l = h
+at-start-sound Form.Full memory bytes h l = h
+at-start-sound Form.Once memory bytes h l =
+    let below = version-number-below-32 bytes l in
+    let most : versionNumber bytes ≤ 31 = omega arith in
+    le-leb _ _ most
+
+after-refusal-sound : (form : Form) (n : ℕ) (memory : Memory) → soundMemory form memory ≡ true → soundMemory form (afterRefusal n memory) ≡ true
+after-refusal-sound form n memory h =
+    of-both (λ (m : Memory). soundMemory form m ≡ true) _ _ _ (nothing-remembered-sound form) h
+
+start-refusal-answers : (form : Form) (memory : Memory) (bytes : List ℕ) → NotTheHosts (startRefusal form memory bytes)
+unfolding startRefusal
+start-refusal-answers form memory bytes =
+    of-both NotTheHosts _ _ _ (another 10 refl refl)
+    (of-both NotTheHosts _ _ _
+    (of-both NotTheHosts _ _ _ (another 12 refl refl)
+    (of-both NotTheHosts _ _ _ (another 13 refl refl) (of-both NotTheHosts _ _ _ (another 14 refl refl) (another 0 refl refl))))
+    (another 11 refl refl))
+
+module _ (form : Form) (memory : Memory) (bytes : List ℕ) (at : ℕ) (buffer : List ℕ) (m : soundMemory form memory ≡ true)
+    (lent : length buffer ≡ 1024) (few : length bytes ≤ 188) where
+  begun-keeps : Starts form memory bytes → soundMemory form (atStart form memory bytes) ≡ true
+      → Keeps (begun form (atStart form memory bytes) bytes at buffer)
+  unfolding begun
+  begun-keeps s n =
+      of-either Keeps _ _ _ (λ here. whole-keeps form _ _ _ buffer n lent)
+      (λ more.
+      let below = leb-false (wanted bytes) (length bytes) more in
+      record {
+        soundState = opened-sound form _ (length bytes) (wanted bytes) n (s .least) below (omega (arith, s .limit));
+        lent = laid-length buffer 0 bytes (omega arith) ∙ lent;
+        answers = another 1 refl refl;
+      })
+
+  started-keeps : Keeps (started form memory bytes at buffer)
+  unfolding started
+  started-keeps =
+      of-either Keeps _ _ _
+      (λ none. let s = starts form memory bytes (eqb-true _ _ none) in begun-keeps s (at-start-sound form memory bytes m (s .least)))
+      (λ refusal. record {
+        soundState = idle-sound form _ (after-refusal-sound form (startRefusal form memory bytes) memory m);
+        lent = lent;
+        answers = start-refusal-answers form memory bytes;
+      })
+
+-- ---- the checks
+
+-- a sound state and a buffer of the right length are not refused for themselves
+starting-at-answers : (start : ℕ) → NotTheHosts (startingAt start .number)
+unfolding startingAt
+starting-at-answers start =
+    of-both (λ (s : Says ℕ). NotTheHosts (s .number)) _ _ _ (another 0 refl refl)
+    (of-both (λ (s : Says ℕ). NotTheHosts (s .number)) _ _ _ (another 7 refl refl) (another 8 refl refl))
+
+checked-answers : (packet : List ℕ) (buffer : ℕ) → buffer ≡ 1024 → NotTheHosts (checked true packet buffer .number)
+unfolding checked ofAPacket payloadBehind
+checked-answers packet buffer lent =
+    of-both Fine _ _ _
+    (of-both Fine _ _ _ (subst Fine (sym (test-holds _ _ _ (eq-eqb buffer 1024 lent) ∙ test-holds _ _ _ refl))
+    (of-both Fine _ _ _ (starting-at-answers 4) (of-both Fine _ _ _ (starting-at-answers _) (another 6 refl refl))))
+    (another 4 refl refl))
+    (another 3 refl refl)
+  where
+    Fine : Says ℕ → Type 0
+    Fine s = NotTheHosts (s .number)
+
+module _ (reader : Reader) (packet buffer : List ℕ) (isSound : sound reader ≡ true) (lent : length buffer ≡ 1024) where
+  from-the-payload-keeps : (goOn : ℕ → Outcome) → ((start : ℕ) → length packet ≡ 188 → Keeps (goOn start))
+      → Keeps (fromThePayload reader packet buffer goOn)
+  unfolding fromThePayload fromAPlace
+  from-the-payload-keeps goOn keeps =
+      let place = checked (sound reader) packet (length buffer) in
+      of-either Keeps _ _ _ (λ found. keeps _ (passed _ _ _ (place .values) (ap (λ (n : ℕ). record { number = n; values = place .values }) (sym (eqb-true _ _ found))) .sized))
+      (λ refusal. same-keeps reader buffer isSound lent _
+      (subst (λ (t : Bool). NotTheHosts (checked t packet (length buffer) .number)) (sym isSound) (checked-answers packet (length buffer) lent)))
+
+  -- "the state after either step is sound whenever the state before was"
+  pub tail-keeps : Keeps (tailOf reader packet buffer)
+  unfolding tailOf
+  tail-keeps = from-the-payload-keeps _ (λ start sized. tail-from-keeps reader buffer isSound lent packet (drop start packet))
+
+  head-from-keeps : (start : ℕ) → length packet ≡ 188 → Keeps (headFrom reader packet start buffer)
+  unfolding headFrom
+  head-from-keeps start sized =
+      let m = memory-sound reader isSound in
+      of-either Keeps _ _ _
+      (λ unit. of-either Keeps _ _ _
+      (λ beyond. idle-keeps reader buffer isSound lent 9 noMemory (nothing-remembered-sound (reader .form)) (another 9 refl refl))
+      (λ within. started-keeps (reader .form) (reader .memory) _ _ buffer m lent (simp length-drop (omega arith))))
+      (λ none. same-keeps reader buffer isSound lent 0 (another 0 refl refl))
+
+  pub head-keeps : Keeps (headOf reader packet buffer)
+  unfolding headOf
+  head-keeps = from-the-payload-keeps _ head-from-keeps
+
+-- ---- a run
+
+pub run-keeps : (reader : Reader) (buffer : List ℕ) (packets : List (List ℕ)) → sound reader ≡ true → length buffer ≡ 1024
+    → EveryStep Keeps (run reader buffer packets)
+unfolding run worked EveryStep
+run-keeps reader buffer [] isSound lent = tt
+run-keeps reader buffer (packet ∷ packets) isSound lent =
+    let t = tail-keeps reader packet buffer isSound lent in
+    let h = head-keeps _ packet _ (t .soundState) (t .lent) in
+    (t, h, run-keeps _ _ packets (h .soundState) (h .lent))
+
+every-step : (P Q : Outcome → Type 0) → ((o : Outcome) → P o → Q o) → (ws : List Worked) → EveryStep P ws → EveryStep Q ws
+unfolding EveryStep
+every-step P Q f [] h = tt
+every-step P Q f (w ∷ ws) h = (f _ (h .0), f _ (h .1), every-step P Q f ws (h .2))
+
+-- "from a fresh state no host that hands state and buffer back untouched ever sees 5 or 25"
+pub never-5-or-25 : (form : Form) (buffer : List ℕ) (packets : List (List ℕ)) → length buffer ≡ 1024
+    → EveryStep (λ (left : Outcome). NotTheHosts (left .step .answer)) (run (fresh form) buffer packets)
+never-5-or-25 form buffer packets lent =
+    every-step Keeps (λ (left : Outcome). NotTheHosts (left .step .answer)) (λ o k. k .answers) _
+    (run-keeps (fresh form) buffer packets (fresh-sound form) lent)

@@ -1,0 +1,71 @@
+-- `reader::begun` meets its contract: the section is whole, or all bytes are kept. Assumes nothing.
+use mathlib.Core.Path.{_≡_, sym, ap, ap₂, _∙_}
+use lib.Seq.{length-take-le}
+use borrow.Author.Tests.{le-leb, lt-leb}
+use denote.Ref.{now}
+use Rattle.fields.specs.Choice.{if_then_else_}
+use Rattle.fields.proofs.Choices.{test-holds, test-fails}
+use Rattle.reader.specs.Outcome.{outcome, answered}
+use Rattle.reader.specs.Head.{begun}
+use borrow.Author.Needs.{needs}
+use Rattle.reader.proofs.begun.Statement.{statement}
+use Rattle.reader.proofs.begun.Tie as tie
+
+wanted-requires : tie.Need-wanted-requires
+wanted-requires c κs = search needs
+
+cast-end : tie.Need-cast-end
+cast-end c = search needs
+
+cast-in-packet : tie.Need-cast-in-packet
+cast-in-packet c = search needs
+
+in-packet-requires : tie.Need-in-packet-requires
+in-packet-requires c κs = search needs
+
+slice-aggregate-whole : tie.Need-slice-aggregate-whole
+slice-aggregate-whole c = sym (length-take-le _ _ (c .before .before .if1 .taken))
+
+whole-requires : tie.Need-whole-requires
+whole-requires c κs = search needs
+
+returns : tie.Need-returns
+unfolding begun if_then_else_
+returns c = simp (← c .before .before .before .before .wanted .ensures, le-leb _ _ (c .before .before .before .if1 .taken), ← c .before .before .in-packet .ensures, ← c .whole .ensures)
+
+lay-requires : tie.Need-lay-requires
+lay-requires c κs = search needs
+
+cast-opened : tie.Need-cast-opened
+cast-opened c = search needs
+
+opened-requires : tie.Need-opened-requires
+opened-requires c κs = search needs
+
+answered-requires : tie.Need-answered-requires
+answered-requires c κs = search needs
+
+same-length : tie.Need-same-length
+same-length c = search needs
+
+returns-2 : tie.Need-returns-2
+unfolding begun if_then_else_
+returns-2 c = simp (← c .before .before .before .before .before .before .before .wanted .ensures, lt-leb _ _ (c .before .before .before .before .before .before .if1 .left), ← c .before .opened .ensures, ← c .answered .ensures, ← c .before .before .before .before .lay .ensures)
+
+pub begun-spec : {M : Type 1} → statement M
+begun-spec =
+    tie.close
+    (tie.spec
+    wanted-requires
+    cast-end
+    cast-in-packet
+    in-packet-requires
+    slice-aggregate-whole
+    whole-requires
+    returns
+    lay-requires
+    cast-opened
+    opened-requires
+    answered-requires
+    same-length
+    returns-2)
