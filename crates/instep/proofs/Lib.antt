@@ -1,0 +1,5 @@
+pub mod Forms
+pub mod Alike
+pub mod BackInStep
+pub mod WhatIsDelivered
+pub mod ForOperators
