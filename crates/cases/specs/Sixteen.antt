@@ -2,29 +2,23 @@
 use Prim.Native.Nat.{ℕ, _-_}
 use Prim.Native.String.{String}
 use mathlib.Core.Path.{_≡_, refl}
-use mathlib.Core.Bool.{Bool, true, false}
+use mathlib.Core.Bool.{Bool}
 use mathlib.Core.List.{List, [], _∷_, _++_}
 use lib.ListN.{length}
 use Rattle.fields.specs.Choice.{if_then_else_}
 use Rattle.fields.specs.BitString.{lowBits, bitString, number, numberAt}
 use Rattle.fields.specs.SyntaxTable.{size, offset, width, valueOf}
-use Rattle.answers.specs.Says.{Says}
 use Rattle.mpegts_crc.specs.Crc.{_plusPolynomialIf_, bitStep, bitEnters, bitsEnter, crcFrom, crcOf}
-use Rattle.packet.specs.declared.Header.{Header}
 use Rattle.packet.specs.Header.{ofAPacket}
 use Rattle.packet.specs.Header as packet-header
 use Rattle.packet.specs.Payload.{startingAt, payloadBehind, payloadOf}
 use Rattle.packet.specs.Cases.{packetFrom, withLength}
-use Rattle.adaptation.specs.declared.ClockRef.{ClockRef}
 use Rattle.adaptation.specs.AdaptationField.{flagsOf, wherePresent, ofAField, adaptationFieldOf}
 use Rattle.adaptation.specs.Parts.{part, pcrOf}
-use Rattle.psi.specs.declared.SectionCommonHeader.{SectionCommonHeader}
-use Rattle.psi.specs.declared.TableSyntaxHeader.{TableSyntaxHeader}
 use Rattle.psi.specs.Header as section-header
-use Rattle.psi.specs.Walk.{Found, foundAt}
+use Rattle.psi.specs.Walk.{foundAt}
 use Rattle.pat.specs.declared.ProgramDescriptor.{ProgramDescriptor}
 use Rattle.pat.specs.Programs.{programOf, programAt}
-use Rattle.pmt.specs.declared.StreamInfo.{StreamInfo}
 use Rattle.pmt.specs.Streams.{streamOf, streamAt}
 use Rattle.reader.specs.declared.Form.{Form}
 use Rattle.reader.specs.State.{soundMemory, soundCounts, sound}

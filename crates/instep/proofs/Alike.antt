@@ -1,44 +1,35 @@
 -- Two readers of one state, whose buffers hold the same bytes of the open section, answer alike from then on. Assumes nothing.
 use Prim.Native.Nat.{ℕ, _+_, _-_, _≤_}
-use mathlib.Core.Path.{_≡_, refl, sym, ap, ap₂, _∙_}
+use mathlib.Core.Path.{_≡_, refl, sym, ap, _∙_}
 use mathlib.Core.Bool.{Bool, true, false, true≢false}
-use mathlib.Core.List.{List, [], _∷_, _++_}
+use mathlib.Core.List.{List, _++_}
 use native.Mathlib.Omega.{arith}
 use lib.ListN.{length, take, drop, length-take, length-drop}
 use lib.Seq.{take-take}
-use borrow.Author.Tests.{eqb-true, ltb-false}
-use Rattle.fields.specs.Choice.{if_then_else_, _is_}
-use Rattle.fields.specs.Laid.{laid}
+use borrow.Author.Tests.{ltb-false}
+use Rattle.fields.specs.Choice.{if_then_else_}
 use Rattle.fields.proofs.LaidBytes.{laid-length, laid-up-to-end, laid-at-front}
 use Rattle.fields.proofs.Choices.{of-both}
 use Rattle.reader.specs.declared.Form.{Form}
 use Rattle.reader.specs.declared.Memory.{Memory}
-use Rattle.reader.specs.declared.Place.{Place}
 use Rattle.reader.specs.declared.Reader.{Reader}
 use Rattle.reader.specs.declared.Step.{Step}
 use Rattle.reader.specs.State.{sound, idle, opened}
 use Rattle.reader.specs.Outcome.{Outcome, outcome, answered, inBuffer, inPacket}
-use Rattle.reader.specs.Checks.{checked, fromAPlace, fromThePayload}
+use Rattle.reader.specs.Checks.{fromAPlace, fromThePayload}
 use Rattle.reader.specs.Pointer.{unitStart}
 use Rattle.reader.specs.Whole.{whole}
 use Rattle.reader.specs.Tail.{copied, filled, continued, tailFrom, tailOf}
 use Rattle.reader.specs.Head.{atStart, begun, started, headFrom, headOf}
 use Rattle.reader.specs.Delivered.{partOf, partHeldBy, sectionOf}
 use Rattle.reader.proofs.Soundness.{open-sound}
-use Rattle.reader.proofs.Checking.{passed}
-use Rattle.reader.proofs.Keeping.{tail-keeps, head-keeps}
-use Rattle.instep.specs.Seen.{Seen, seen, seenOver}
+use Rattle.reader.proofs.Checking.{found-place}
+use Rattle.instep.specs.Seen.{seen}
 
 -- the same answer, state, place and delivered bytes, and the same bytes of what is open
 pub record Alike (packet : List ℕ) (a b : Outcome) : Type 0 where
   pub seenAlike : seen packet a ≡ seen packet b
   pub heldAlike : take (a .step .reader .held) (a .buffer) ≡ take (a .step .reader .held) (b .buffer)
-
--- a place is found only in a packet of 188 bytes
-place-found : (reader : Reader) (packet : List ℕ) → (checked (sound reader) packet 1024 .number is 0) ≡ true → length packet ≡ 188
-place-found reader packet found =
-    let place = checked (sound reader) packet 1024 in
-    passed _ _ _ (place .values) (ap (λ (n : ℕ). record { number = n; values = place .values }) (sym (eqb-true _ _ found))) .sized
 
 module _ (packet : List ℕ) where
   alike-either-way : (t : Bool) (a b a′ b′ : Outcome) → (t ≡ true → Alike packet a a′) → (t ≡ false → Alike packet b b′)
@@ -61,7 +52,8 @@ module _ (packet : List ℕ) where
 
   -- a whole section in the packet
   whole-in-packet-alike : (form : Form) (memory : Memory) (at len : ℕ) (section x y : List ℕ)
-      → Alike packet (outcome (whole form memory (inPacket at len) section) x) (outcome (whole form memory (inPacket at len) section) y)
+      → Alike packet (outcome (whole form memory (inPacket at len) section) x)
+      (outcome (whole form memory (inPacket at len) section) y)
   unfolding whole seen sectionOf partHeldBy
   whole-in-packet-alike form memory at len section x y =
       of-both (λ (s : Step). Alike packet (outcome s x) (outcome s y)) _ _ _
@@ -72,7 +64,8 @@ module _ (packet : List ℕ) where
   unfolding partOf
   part-alike len x y l e = simp (l, e)
 
-  delivered-alike : (reader : Reader) (len : ℕ) (x y : List ℕ) → length x ≡ length y → take len x ≡ take len y → reader .held ≡ 0
+  delivered-alike : (reader : Reader) (len : ℕ) (x y : List ℕ) → length x ≡ length y → take len x ≡ take len y → reader .held
+      ≡ 0
       → Alike packet (outcome (record { reader = reader; place = inBuffer len; answer = 2 }) x)
       (outcome (record { reader = reader; place = inBuffer len; answer = 2 }) y)
   unfolding seen sectionOf partHeldBy if_then_else_
@@ -83,8 +76,10 @@ module _ (packet : List ℕ) where
         heldAlike = rw none refl;
       }
 
-  whole-in-buffer-alike : (form : Form) (memory : Memory) (len : ℕ) (x y : List ℕ) → length x ≡ length y → take len x ≡ take len y
-      → Alike packet (outcome (whole form memory (inBuffer len) (take len x)) x) (outcome (whole form memory (inBuffer len) (take len y)) y)
+  whole-in-buffer-alike : (form : Form) (memory : Memory) (len : ℕ) (x y : List ℕ) → length x ≡ length y → take len x
+      ≡ take len y
+      → Alike packet (outcome (whole form memory (inBuffer len) (take len x)) x)
+      (outcome (whole form memory (inBuffer len) (take len y)) y)
   unfolding whole
   whole-in-buffer-alike form memory len x y l e =
       rw e
@@ -109,13 +104,16 @@ module _ (packet : List ℕ) where
         laid-up-to-end x (reader .held) (copied reader bytes) fx ∙ ap (λ (l : List ℕ). l ++ copied reader bytes) same
         ∙ sym (laid-up-to-end y (reader .held) (copied reader bytes) fy) in
         alike-either-way _ _ _ _ _
-        (λ wants. answered-alike 1 (opened (reader .form) (reader .memory) (reader .held + length (copied reader bytes)) (reader .wanted)) _ _ front)
+        (λ wants. answered-alike 1 (opened (reader .form) (reader .memory) (reader .held + length (copied reader bytes))
+        (reader .wanted)) _ _ front)
         (λ enough.
         let n : reader .wanted ≤ reader .held + length (copied reader bytes) = ltb-false _ _ enough in
         let all : take (reader .wanted) (filled reader bytes x) ≡ take (reader .wanted) (filled reader bytes y) =
-        sym (take-take (reader .wanted) _ (filled reader bytes x) n) ∙ ap (take (reader .wanted)) front ∙ take-take (reader .wanted) _ (filled reader bytes y) n in
+        sym (take-take (reader .wanted) _ (filled reader bytes x) n) ∙ ap (take (reader .wanted)) front
+        ∙ take-take (reader .wanted) _ (filled reader bytes y) n in
         whole-in-buffer-alike (reader .form) (reader .memory) (reader .wanted) _ _
-        (laid-length x (reader .held) (copied reader bytes) fx ∙ lx ∙ sym (laid-length y (reader .held) (copied reader bytes) fy ∙ ly)) all))
+        (laid-length x (reader .held) (copied reader bytes) fx ∙ lx
+        ∙ sym (laid-length y (reader .held) (copied reader bytes) fy ∙ ly)) all))
         (λ isIdle. idle-alike 15 (reader .form) (reader .memory) x y)
 
     tail-from-alike : (payload : List ℕ) → Alike packet (tailFrom reader packet payload x) (tailFrom reader packet payload y)
@@ -133,7 +131,7 @@ module _ (packet : List ℕ) where
     from-the-payload-alike f g each =
         rw (lx, ly)
         (alike-either-way _ _ _ _ _
-        (λ found. each _ (place-found reader packet found)) (λ refusal. answered-alike _ reader x y same))
+        (λ found. each _ (found-place _ packet 1024 found .sized)) (λ refusal. answered-alike _ reader x y same))
 
     pub tail-alike : Alike packet (tailOf reader packet x) (tailOf reader packet y)
     unfolding tailOf

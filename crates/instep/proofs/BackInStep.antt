@@ -1,28 +1,26 @@
 -- Demand 3, back in step. Assumes nothing.
 use Prim.Native.Nat.{ℕ}
 use mathlib.Core.Path.{_≡_, refl, sym, ap, ap₂, _∙_, subst}
-use mathlib.Core.Bool.{Bool, true, false}
-use mathlib.Core.List.{List, [], _∷_, _++_}
+use mathlib.Core.Bool.{Bool, true}
+use mathlib.Core.List.{List, [], _∷_}
 use lib.ListN.{length, take}
-use borrow.Author.Tests.{eq-eqb}
 use Rattle.fields.specs.Choice.{if_then_else_}
-use Rattle.fields.proofs.Choices.{test-holds}
-use Rattle.answers.specs.Says.{Says, given}
+use Rattle.answers.specs.Says.{given}
 use Rattle.packet.specs.Payload.{payloadOf}
 use Rattle.reader.specs.declared.Form.{Form}
 use Rattle.reader.specs.declared.Reader.{Reader}
 use Rattle.reader.specs.declared.Step.{Step}
-use Rattle.reader.specs.State.{sound, fresh}
-use Rattle.reader.specs.Outcome.{Outcome, outcome}
-use Rattle.reader.specs.Checks.{checked, fromAPlace, fromThePayload}
+use Rattle.reader.specs.State.{sound}
+use Rattle.reader.specs.Outcome.{Outcome}
+use Rattle.reader.specs.Checks.{checked}
 use Rattle.reader.specs.Pointer.{unitStart}
 use Rattle.reader.specs.Tail.{tailOf}
 use Rattle.reader.specs.Head.{headFrom, headOf}
-use Rattle.reader.specs.Run.{after, headAfter}
+use Rattle.reader.specs.Run.{headAfter}
 use Rattle.reader.proofs.Checking.{goes-on, passed}
 use Rattle.reader.proofs.Keeping.{Keeps, tail-keeps, head-keeps}
 use Rattle.instep.specs.Seen.{Seen, seen, seenOver, seenFromHead, tailBehind}
-use Rattle.instep.proofs.Forms.{Kept, history-kept, tail-form, Forgetful, remembers-nothing}
+use Rattle.instep.proofs.Forms.{history-kept, tail-form}
 use Rattle.instep.proofs.Alike.{Alike, tail-alike, head-alike, head-from-unit-start-alike}
 
 step-alike : (packet : List ℕ) (a b : Outcome) → Alike packet a b → a .step ≡ b .step
@@ -35,7 +33,8 @@ AlikeOver packets =
     (reader : Reader) (x y : List ℕ) → sound reader ≡ true → length x ≡ 1024 → length y ≡ 1024
     → take (reader .held) x ≡ take (reader .held) y → seenOver reader x packets ≡ seenOver reader y packets
 
-behind-alike : (packets : List (List ℕ)) → AlikeOver packets → (packet : List ℕ) (a b : Outcome) → Alike packet a b → Keeps a → Keeps b
+behind-alike : (packets : List (List ℕ)) → AlikeOver packets → (packet : List ℕ) (a b : Outcome) → Alike packet a b → Keeps a
+    → Keeps b
     → seenOver (a .step .reader) (a .buffer) packets ≡ seenOver (b .step .reader) (b .buffer) packets
 behind-alike packets over packet a b h k l =
     over (a .step .reader) (a .buffer) (b .buffer) (k .soundState) (k .lent) (l .lent) (h .heldAlike)
@@ -72,8 +71,10 @@ place-of packet found isSound buffer s l =
 pub back-in-step : (form : Form) (buffer₁ buffer₂ : List ℕ) → length buffer₁ ≡ 1024 → length buffer₂ ≡ 1024
     → (history₁ history₂ : List (List ℕ)) (packet : List ℕ) (packets : List (List ℕ))
     → payloadOf packet .number ≡ 0 → unitStart packet ≡ true
-    → tailBehind form buffer₁ history₁ packet .step .reader .memory ≡ tailBehind form buffer₂ history₂ packet .step .reader .memory
-    → seenFromHead (tailBehind form buffer₁ history₁ packet) packet packets ≡ seenFromHead (tailBehind form buffer₂ history₂ packet) packet packets
+    → tailBehind form buffer₁ history₁ packet .step .reader .memory
+    ≡ tailBehind form buffer₂ history₂ packet .step .reader .memory
+    → seenFromHead (tailBehind form buffer₁ history₁ packet) packet packets
+    ≡ seenFromHead (tailBehind form buffer₂ history₂ packet) packet packets
 unfolding seenFromHead tailBehind headOf
 back-in-step form x y lx ly hx hy packet packets found unit memories =
     let kx = history-kept form x hx lx in
@@ -87,11 +88,16 @@ back-in-step form x y lx ly hx hy packet packets found unit memories =
     let pa = place-of packet found (sound (a .step .reader)) (length (a .buffer)) (ta .soundState) (ta .lent) in
     let pb = place-of packet found (sound (b .step .reader)) (length (b .buffer)) (tb .soundState) (tb .lent) in
     let start = payloadOf packet .values in
-    let from : Alike packet (headFrom (a .step .reader) packet start (a .buffer)) (headFrom (b .step .reader) packet start (b .buffer)) =
-    head-from-unit-start-alike packet (a .buffer) (b .buffer) (ta .lent) (tb .lent) form (b .step .reader .memory) (a .step .reader) (b .step .reader)
-    (tail-form _ packet _ ∙ kx .formed) (tail-form _ packet _ ∙ ky .formed) memories refl start (passed _ _ _ _ pa .sized) unit in
+    let from : Alike packet (headFrom (a .step .reader) packet start (a .buffer))
+    (headFrom (b .step .reader) packet start (b .buffer)) =
+    head-from-unit-start-alike packet (a .buffer) (b .buffer) (ta .lent) (tb .lent) form (b .step .reader .memory)
+    (a .step .reader) (b .step .reader)
+    (tail-form _ packet _ ∙ kx .formed) (tail-form _ packet _ ∙ ky .formed) memories refl start
+    (passed _ _ _ _ pa .sized) unit in
     let h : Alike packet (headAfter packet a) (headAfter packet b) =
-    subst (λ (o : Outcome). Alike packet o (headAfter packet b)) (sym (goes-on (a .step .reader) packet (a .buffer) _ start pa))
+    subst (λ (o : Outcome). Alike packet o (headAfter packet b))
+    (sym (goes-on (a .step .reader) packet (a .buffer) (λ from. headFrom (a .step .reader) packet from (a .buffer)) start pa))
     (subst (λ (o : Outcome). Alike packet (headFrom (a .step .reader) packet start (a .buffer)) o)
-    (sym (goes-on (b .step .reader) packet (b .buffer) _ start pb)) from) in
+    (sym (goes-on (b .step .reader) packet (b .buffer) (λ from. headFrom (b .step .reader) packet from (b .buffer)) start pb))
+    from) in
     ap₂ _∷_ (h .seenAlike) (behind-alike packets (over-alike packets) packet _ _ h ha hb)

@@ -1,5 +1,5 @@
 -- A reader keeps its form, and COMPACT and FULL remember nothing. Assumes nothing.
-use Prim.Native.Nat.{ℕ, _+_}
+use Prim.Native.Nat.{ℕ}
 use mathlib.Core.Path.{_≡_, refl, ap₂, _∙_}
 use mathlib.Core.Bool.{Bool, true, false, false≢true}
 use borrow.Author.Tests.{eqb-true}
@@ -13,7 +13,7 @@ use Rattle.reader.specs.declared.Place.{Place}
 use Rattle.reader.specs.declared.Reader.{Reader}
 use Rattle.reader.specs.declared.Step.{Step}
 use Rattle.reader.specs.State.{noMemory, soundMemory, sound, fresh}
-use Rattle.reader.specs.Outcome.{Outcome, outcome}
+use Rattle.reader.specs.Outcome.{Outcome}
 use Rattle.reader.specs.Checks.{fromAPlace, fromThePayload}
 use Rattle.reader.specs.Whole.{whole}
 use Rattle.reader.specs.Tail.{continued, tailFrom, tailOf}
@@ -26,14 +26,17 @@ module _ (form : Form) where
   unfolding whole
   whole-form memory place section = of-both (λ (s : Step). s .reader .form ≡ form) _ _ _ refl refl
 
-  begun-form : (memory : Memory) (bytes : List ℕ) (at : ℕ) (buffer : List ℕ) → begun form memory bytes at buffer .step .reader .form ≡ form
+  begun-form : (memory : Memory) (bytes : List ℕ) (at : ℕ) (buffer : List ℕ)
+      → begun form memory bytes at buffer .step .reader .form ≡ form
   unfolding begun
   begun-form memory bytes at buffer = of-both (λ (o : Outcome). o .step .reader .form ≡ form) _ _ _ (whole-form memory _ _) refl
 
-  started-form : (memory : Memory) (bytes : List ℕ) (at : ℕ) (buffer : List ℕ) → started form memory bytes at buffer .step .reader .form ≡ form
+  started-form : (memory : Memory) (bytes : List ℕ) (at : ℕ) (buffer : List ℕ)
+      → started form memory bytes at buffer .step .reader .form ≡ form
   unfolding started
   started-form memory bytes at buffer =
-      of-both (λ (o : Outcome). o .step .reader .form ≡ form) _ _ _ (begun-form (atStart form memory bytes) bytes at buffer) refl
+      of-both (λ (o : Outcome). o .step .reader .form ≡ form) _ _ _
+      (begun-form (atStart form memory bytes) bytes at buffer) refl
 
 module _ (reader : Reader) where
   abbrev SameForm : Outcome → Type 0
@@ -41,7 +44,8 @@ module _ (reader : Reader) where
 
   continued-form : (bytes buffer : List ℕ) → SameForm (continued reader bytes buffer)
   unfolding continued
-  continued-form bytes buffer = of-both SameForm _ _ _ (of-both SameForm _ _ _ refl (whole-form (reader .form) (reader .memory) _ _)) refl
+  continued-form bytes buffer = of-both SameForm _ _ _
+      (of-both SameForm _ _ _ refl (whole-form (reader .form) (reader .memory) _ _)) refl
 
   from-the-payload-form : (packet buffer : List ℕ) (goOn : ℕ → Outcome) → ((start : ℕ) → SameForm (goOn start))
       → SameForm (fromThePayload reader packet buffer goOn)
@@ -51,7 +55,8 @@ module _ (reader : Reader) where
   tail-from-form : (packet payload buffer : List ℕ) → SameForm (tailFrom reader packet payload buffer)
   unfolding tailFrom
   tail-from-form packet payload buffer =
-      of-both SameForm _ _ _ (of-both SameForm _ _ _ refl (of-both SameForm _ _ _ refl (continued-form _ buffer))) (continued-form payload buffer)
+      of-both SameForm _ _ _ (of-both SameForm _ _ _ refl (of-both SameForm _ _ _ refl (continued-form _ buffer)))
+      (continued-form payload buffer)
 
   pub tail-form : (packet buffer : List ℕ) → SameForm (tailOf reader packet buffer)
   unfolding tailOf
@@ -74,7 +79,8 @@ pub record Kept (form : Form) (left : Left) : Type 0 where
   pub soundState : sound (left .reader) ≡ true
   pub lent : length (left .buffer) ≡ 1024
 
-after-kept : (form : Form) (reader : Reader) (buffer : List ℕ) (history : List (List ℕ)) → reader .form ≡ form → sound reader ≡ true
+after-kept : (form : Form) (reader : Reader) (buffer : List ℕ) (history : List (List ℕ)) → reader .form ≡ form → sound reader
+    ≡ true
     → length buffer ≡ 1024 → Kept form (after reader buffer history)
 unfolding after worked
 after-kept form reader buffer [] f s l = record { formed = f; soundState = s; lent = l }
@@ -83,7 +89,8 @@ after-kept form reader buffer (packet ∷ history) f s l =
     let h = head-keeps _ packet _ (t .soundState) (t .lent) in
     after-kept form _ _ history (head-form _ packet _ ∙ tail-form reader packet buffer ∙ f) (h .soundState) (h .lent)
 
-pub history-kept : (form : Form) (buffer : List ℕ) (history : List (List ℕ)) → length buffer ≡ 1024 → Kept form (after (fresh form) buffer history)
+pub history-kept : (form : Form) (buffer : List ℕ) (history : List (List ℕ)) → length buffer ≡ 1024
+    → Kept form (after (fresh form) buffer history)
 history-kept form buffer history l = after-kept form (fresh form) buffer history refl (fresh-sound form) l
 
 -- ---- "COMPACT and FULL remember no version"
@@ -92,7 +99,8 @@ pub data Forgetful : Form → Type 0 where
   compact : Forgetful Form.Compact
   full : Forgetful Form.Full
 
-nothing-known : (memory : Memory) → (known : Bool) → memory .known ≡ known → (if known then false else memory .version is 0) ≡ true → memory ≡ noMemory
+nothing-known : (memory : Memory) → (known : Bool) → memory .known ≡ known → (if known then false else memory .version is 0)
+    ≡ true → memory ≡ noMemory
 unfolding if_then_else_
 nothing-known memory true e h = absurd (false≢true h)
 nothing-known memory false e h = ap₂ (λ (k : Bool) (v : ℕ). record { known = k; version = v }) e (eqb-true _ _ h)

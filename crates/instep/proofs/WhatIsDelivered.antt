@@ -1,14 +1,13 @@
 -- Demand 3, what is delivered: exactly the first 3 plus section_length of the bytes fed from the section's start on. Assumes nothing.
 use Prim.Native.Nat.{ℕ, _+_, _-_, _≤_, _<_}
 use mathlib.Core.Path.{_≡_, refl, sym, ap, ap₂, _∙_, subst}
-use mathlib.Core.Bool.{Bool, true, false, true≢false}
+use mathlib.Core.Bool.{true, false, true≢false}
 use mathlib.Core.List.{List, [], _∷_, _++_, append-nil}
 use native.Mathlib.Omega.{arith}
 use lib.ListN.{length, take, drop, length-take, length-drop, length-append}
-use lib.Seq.{take-all, take-take, take-add, length-take-le, take-append-le, take-append-add, drop-drop}
-use borrow.Author.Tests.{eqb-true, eqb-false, eq-eqb, ltb-true, ltb-false, leb-true, le-ltb}
-use Rattle.fields.specs.Choice.{if_then_else_, _is_}
-use Rattle.fields.specs.Laid.{laid}
+use lib.Seq.{take-all, take-append-add, drop-drop}
+use borrow.Author.Tests.{eqb-true, eqb-false, ltb-true, ltb-false, leb-true, le-ltb}
+use Rattle.fields.specs.Choice.{if_then_else_}
 use Rattle.fields.proofs.Choices.{test-holds, test-fails, of-both, of-either, both-hold, first-chosen, second-chosen}
 use Rattle.fields.proofs.LaidBytes.{laid-length, laid-up-to-end, laid-at-front}
 use Rattle.answers.specs.Says.{Says}
@@ -22,21 +21,21 @@ use Rattle.reader.specs.declared.Memory.{Memory}
 use Rattle.reader.specs.declared.Place.{Place}
 use Rattle.reader.specs.declared.Reader.{Reader}
 use Rattle.reader.specs.declared.Step.{Step}
-use Rattle.reader.specs.State.{leastHeld, sound, idle, opened, fresh}
+use Rattle.reader.specs.State.{leastHeld, sound, idle, fresh}
 use Rattle.reader.specs.Outcome.{Outcome, outcome, answered, inBuffer, inPacket}
 use Rattle.reader.specs.Checks.{checked, fromAPlace, fromThePayload}
-use Rattle.reader.specs.Pointer.{unitStart, pointer, rest, pointsBeyond}
+use Rattle.reader.specs.Pointer.{unitStart, pointer, rest}
 use Rattle.reader.specs.Whole.{crcVerdict, verdict, whole}
 use Rattle.reader.specs.Tail.{copied, filled, continued, tailFrom, tailOf}
 use Rattle.reader.specs.Head.{atStart, startRefusal, begun, started, headFrom, headOf}
 use Rattle.reader.specs.Delivered.{partOf, partHeldBy, sectionOf}
-use Rattle.reader.specs.Run.{Left, after, headAfter, worked}
+use Rattle.reader.specs.Run.{after, headAfter, worked}
 use Rattle.reader.proofs.Soundness.{open-sound}
-use Rattle.reader.proofs.Checking.{passed}
+use Rattle.reader.proofs.Checking.{found-place}
 use Rattle.reader.proofs.Keeping.{tail-keeps, head-keeps, fresh-sound}
-use Rattle.instep.specs.Seen.{Seen, seen, tailBehind}
+use Rattle.instep.specs.Seen.{seen, tailBehind}
 use Rattle.instep.specs.Fed.{hasPayload, payload, mayStart, fromTarget, continuing, fedBehind, fedBy, firstSection}
-use Rattle.instep.proofs.Forms.{Kept, history-kept}
+use Rattle.instep.proofs.Forms.{history-kept}
 
 -- "in the two forms that test it"
 pub data Tests : Form → Type 0 where
@@ -51,13 +50,16 @@ three-held Form.Full = omega arith
 three-held Form.Once = omega arith
 
 -- where some are still wanted, all bytes were copied
-copied-all : (reader : Reader) (bytes : List ℕ) → reader .held + length (copied reader bytes) < reader .wanted → copied reader bytes ≡ bytes
+copied-all : (reader : Reader) (bytes : List ℕ) → reader .held + length (copied reader bytes) < reader .wanted
+    → copied reader bytes ≡ bytes
 copied-all reader bytes below =
-    let short : length bytes ≤ reader .wanted - reader .held = omega (arith, length-take (reader .wanted - reader .held) bytes) in
+    let short : length bytes ≤ reader .wanted - reader .held = omega
+    (arith, length-take (reader .wanted - reader .held) bytes) in
     take-all (reader .wanted - reader .held) bytes short
 
 -- so many of two lists, of which the first has fewer
-first-of-both : (fed bytes : List ℕ) (held wanted : ℕ) → held ≡ length fed → held ≤ wanted → fed ++ take (wanted - held) bytes ≡ take wanted (fed ++ bytes)
+first-of-both : (fed bytes : List ℕ) (held wanted : ℕ) → held ≡ length fed → held ≤ wanted → fed ++ take (wanted - held) bytes
+    ≡ take wanted (fed ++ bytes)
 first-of-both fed bytes held wanted e l =
     sym (ap (λ (n : ℕ). take n (fed ++ bytes)) (let q : wanted ≡ length fed + (wanted - held) = omega arith in q)
     ∙ take-append-add fed bytes (wanted - held))
@@ -77,11 +79,13 @@ pub record Leaves (packet deliveredFrom heldFrom : List ℕ) (left : Outcome) : 
 
 module _ (packet d h : List ℕ) where
   -- an answer that delivers nothing and leaves the state, or leaves nothing open
-  leaves-idle : (n : ℕ) (form : Form) (memory : Memory) (buffer : List ℕ) → (n ≡ 2 → ⊥) → Leaves packet d h (outcome (answered n (idle form memory)) buffer)
+  leaves-idle : (n : ℕ) (form : Form) (memory : Memory) (buffer : List ℕ) → (n ≡ 2 → ⊥)
+      → Leaves packet d h (outcome (answered n (idle form memory)) buffer)
   leaves-idle n form memory buffer other =
       record { delivers = λ e. absurd (other e); tested = λ e t. absurd (other e); holds = λ e. absurd (true≢false (sym e)) }
 
-  leaves-answered : (n : ℕ) (reader : Reader) (buffer : List ℕ) → (n ≡ 2 → ⊥) → (reader .«is_open» ≡ true → Holds h reader buffer)
+  leaves-answered : (n : ℕ) (reader : Reader) (buffer : List ℕ) → (n ≡ 2 → ⊥)
+      → (reader .«is_open» ≡ true → Holds h reader buffer)
       → Leaves packet d h (outcome (answered n reader) buffer)
   leaves-answered n reader buffer other held =
       record { delivers = λ e. absurd (other e); tested = λ e t. absurd (other e); holds = held }
@@ -100,7 +104,8 @@ crc-zero form section e full = crc-verdict-zero section e
 crc-zero form section e once = crc-verdict-zero section e
 
 -- what a whole section leaves, where its place reads as it
-leaves-whole : (packet d h : List ℕ) (form : Form) (memory : Memory) (place : Place) (section buffer : List ℕ) → section ≡ firstSection d
+leaves-whole : (packet d h : List ℕ) (form : Form) (memory : Memory) (place : Place) (section buffer : List ℕ) → section
+    ≡ firstSection d
     → sectionOf packet buffer 2 place ≡ section → Leaves packet d h (outcome (whole form memory place section) buffer)
 unfolding whole seen
 leaves-whole packet d h form memory place section buffer e read =
@@ -113,27 +118,32 @@ leaves-whole packet d h form memory place section buffer e read =
     (λ v. leaves-idle packet d h _ form memory buffer (eqb-false _ _ v))
 
 -- a part that lies within is read
-part-within : (bytes : List ℕ) (start len : ℕ) → start + len ≤ length bytes → partOf bytes start len ≡ take len (drop start bytes)
+part-within : (bytes : List ℕ) (start len : ℕ) → start + len ≤ length bytes → partOf bytes start len
+    ≡ take len (drop start bytes)
 unfolding partOf
 part-within bytes start len fits =
     let inside : start ≤ length bytes = omega arith in
     let short : len ≤ length bytes - start = omega arith in
     test-fails _ _ _ (le-ltb _ _ inside) ∙ test-fails _ _ _ (le-ltb _ _ short)
 
-read-in-buffer : (packet buffer : List ℕ) (len : ℕ) → len ≤ length buffer → sectionOf packet buffer 2 (inBuffer len) ≡ take len buffer
+read-in-buffer : (packet buffer : List ℕ) (len : ℕ) → len ≤ length buffer → sectionOf packet buffer 2 (inBuffer len)
+    ≡ take len buffer
 unfolding sectionOf partHeldBy if_then_else_
 read-in-buffer packet buffer len fits = part-within buffer 0 len (omega arith)
 
-read-in-packet : (packet buffer : List ℕ) (at len : ℕ) → at + len ≤ length packet → sectionOf packet buffer 2 (inPacket at len) ≡ take len (drop at packet)
+read-in-packet : (packet buffer : List ℕ) (at len : ℕ) → at + len ≤ length packet → sectionOf packet buffer 2 (inPacket at len)
+    ≡ take len (drop at packet)
 unfolding sectionOf partHeldBy if_then_else_
 read-in-packet packet buffer at len fits = part-within packet at len fits
 
 -- ---- the payload
 
 -- a sound state with 1,024 bytes goes on where there is a payload
-from-the-payload : (reader : Reader) (packet buffer : List ℕ) → sound reader ≡ true → length buffer ≡ 1024 → (goOn : ℕ → Outcome)
+from-the-payload : (reader : Reader) (packet buffer : List ℕ) → sound reader ≡ true → length buffer ≡ 1024
+    → (goOn : ℕ → Outcome)
     → fromThePayload reader packet buffer goOn
-    ≡ (if hasPayload packet then goOn (payloadOf packet .values) else outcome (answered (payloadOf packet .number) reader) buffer)
+    ≡ (if hasPayload packet then goOn (payloadOf packet .values) else outcome
+    (answered (payloadOf packet .number) reader) buffer)
 unfolding fromThePayload fromAPlace checked payloadOf if_then_else_
 from-the-payload reader packet buffer s l goOn = rw (s, l) refl
 
@@ -160,9 +170,7 @@ payload-not-delivered packet =
 -- and a payload is found only in 188 bytes
 payload-sized : (packet : List ℕ) → hasPayload packet ≡ true → length packet ≡ 188
 unfolding checked payloadOf if_then_else_
-payload-sized packet placed =
-    passed true packet 1024 (payloadOf packet .values)
-    (ap (λ (n : ℕ). record { number = n; values = payloadOf packet .values }) (sym (eqb-true (payloadOf packet .number) 0 placed))) .sized
+payload-sized packet placed = found-place true packet 1024 placed .sized
 
 module _ (packet : List ℕ) where
   continuing-nothing : hasPayload packet ≡ false → continuing packet ≡ []
@@ -193,7 +201,8 @@ module _ (packet fed : List ℕ) (reader : Reader) (buffer : List ℕ) (isSound 
       let few : length (copied reader bytes) ≤ reader .wanted - reader .held = simp length-take (omega arith) in
       let room : reader .held + length (copied reader bytes) ≤ length buffer = omega arith in
       let front : take (reader .held + length (copied reader bytes)) (filled reader bytes buffer) ≡ fed ++ copied reader bytes =
-      laid-up-to-end buffer (reader .held) (copied reader bytes) room ∙ ap (λ (l : List ℕ). l ++ copied reader bytes) (have .bytes) in
+      laid-up-to-end buffer (reader .held) (copied reader bytes) room ∙ ap (λ (l : List ℕ). l ++ copied reader bytes)
+      (have .bytes) in
       let wants : reader .wanted ≡ wanted (fed ++ bytes) = have .wants ∙ sym (wanted-by-front fed bytes three) in
       of-either (Leaves packet (fed ++ bytes) (fed ++ bytes)) _ _ _
       (λ more.
@@ -209,7 +218,8 @@ module _ (packet fed : List ℕ) (reader : Reader) (buffer : List ℕ) (isSound 
       let n : reader .wanted ≤ reader .held + length (copied reader bytes) = ltb-false _ _ enough in
       let exact : reader .held + length (copied reader bytes) ≡ reader .wanted = omega arith in
       let first : take (reader .wanted) (filled reader bytes buffer) ≡ firstSection (fed ++ bytes) =
-      ap (λ (m : ℕ). take m (filled reader bytes buffer)) (sym exact) ∙ front ∙ first-of-both fed bytes (reader .held) (reader .wanted) (have .count) (omega arith)
+      ap (λ (m : ℕ). take m (filled reader bytes buffer)) (sym exact) ∙ front
+      ∙ first-of-both fed bytes (reader .held) (reader .wanted) (have .count) (omega arith)
       ∙ ap (λ (m : ℕ). take m (fed ++ bytes)) wants in
       let long : reader .wanted ≤ length (filled reader bytes buffer) =
       rw (laid-length buffer (reader .held) (copied reader bytes) room) (omega arith) in
@@ -223,11 +233,13 @@ module _ (packet fed : List ℕ) (reader : Reader) (buffer : List ℕ) (isSound 
   tail-from-leaves placed =
       of-either P _ _ _
       (λ unit.
-      let what : continuing packet ≡ take (pointer (payload packet)) (rest (payload packet)) = continuing-up-to packet placed unit in
+      let what : continuing packet
+      ≡ take (pointer (payload packet)) (rest (payload packet)) = continuing-up-to packet placed unit in
       of-either P _ _ _
       (λ none.
       let nothing : fed ++ continuing packet ≡ fed =
-      ap (λ (l : List ℕ). fed ++ l) (what ∙ ap (λ (n : ℕ). take n (rest (payload packet))) (eqb-true (pointer (payload packet)) 0 none)) ∙ append-nil fed in
+      ap (λ (l : List ℕ). fed ++ l)
+      (what ∙ ap (λ (n : ℕ). take n (rest (payload packet))) (eqb-true (pointer (payload packet)) 0 none)) ∙ append-nil fed in
       subst (λ (l : List ℕ). Leaves packet l l (outcome (answered 0 reader) buffer)) (sym nothing)
       (leaves-answered packet fed fed 0 reader buffer (eqb-false 0 2 refl) held))
       (λ some. of-either P _ _ _
@@ -240,12 +252,14 @@ module _ (packet fed : List ℕ) (reader : Reader) (buffer : List ℕ) (isSound 
 
       continues-with : (bytes : List ℕ) → continuing packet ≡ bytes → P (continued reader bytes buffer)
       continues-with bytes e =
-          subst (λ (l : List ℕ). Leaves packet (fed ++ l) (fed ++ l) (continued reader bytes buffer)) (sym e) (continued-leaves bytes)
+          subst (λ (l : List ℕ). Leaves packet (fed ++ l) (fed ++ l) (continued reader bytes buffer)) (sym e)
+          (continued-leaves bytes)
 
   pub tail-leaves : Leaves packet (fed ++ continuing packet) (fed ++ continuing packet) (tailOf reader packet buffer)
   unfolding tailOf
   tail-leaves =
-      subst P (sym (from-the-payload reader packet buffer isSound lent (λ start. tailFrom reader packet (drop start packet) buffer)))
+      subst P (sym
+      (from-the-payload reader packet buffer isSound lent (λ start. tailFrom reader packet (drop start packet) buffer)))
       (of-either P _ _ _ tail-from-leaves
       (λ none.
       subst (λ (l : List ℕ). Leaves packet l l (outcome (answered (payloadOf packet .number) reader) buffer))
@@ -271,8 +285,10 @@ module _ (packet fed : List ℕ) (reader : Reader) (buffer : List ℕ) (isSound 
       let few : length (drop at packet) ≤ 188 = simp length-drop (omega arith) in
       of-either (Leaves packet bytes bytes) _ _ _
       (λ here.
-      let fits : at + wanted bytes ≤ length packet = omega (arith, leb-true (wanted bytes) (length bytes) here, length-drop at packet) in
-      leaves-whole packet bytes bytes form memory (inPacket at (wanted bytes)) _ buffer refl (read-in-packet packet buffer at (wanted bytes) fits))
+      let fits : at + wanted bytes ≤ length packet = omega
+      (arith, leb-true (wanted bytes) (length bytes) here, length-drop at packet) in
+      leaves-whole packet bytes bytes form memory (inPacket at (wanted bytes)) _ buffer refl
+      (read-in-packet packet buffer at (wanted bytes) fits))
       (λ more. leaves-answered packet bytes bytes 1 _ _ (eqb-false 1 2 refl)
       (λ isOpen. record { bytes = laid-at-front buffer bytes (omega arith); count = refl; wants = refl }))
 
@@ -298,14 +314,17 @@ module _ (packet fed : List ℕ) (reader : Reader) (buffer : List ℕ) (isSound 
       (λ refusal. leaves-idle packet bytes bytes _ form _ buffer (start-is-not-2 form memory bytes))
 
   -- the bytes from the pointer on are the payload's from its target on
-  target : (start : ℕ) → drop (start + 1 + pointer (drop start packet)) packet ≡ drop (pointer (drop start packet)) (rest (drop start packet))
+  target : (start : ℕ) → drop (start + 1 + pointer (drop start packet)) packet
+      ≡ drop (pointer (drop start packet)) (rest (drop start packet))
   target start =
-      sym (ap (drop (pointer (drop start packet))) (drop-drop 1 start packet) ∙ drop-drop (pointer (drop start packet)) (start + 1) packet)
+      sym (ap (drop (pointer (drop start packet))) (drop-drop 1 start packet)
+      ∙ drop-drop (pointer (drop start packet)) (start + 1) packet)
 
   unfolded-start : hasPayload packet ≡ true → unitStart packet ≡ true → fromTarget packet ≡ (fedNow packet fed)
   unfolded-start placed unit = sym (test-holds _ _ _ (both-hold _ _ placed unit))
 
-  head-from-leaves : hasPayload packet ≡ true → Leaves packet (fromTarget packet) (fedNow packet fed) (headFrom reader packet (payloadOf packet .values) buffer)
+  head-from-leaves : hasPayload packet ≡ true → Leaves packet (fromTarget packet) (fedNow packet fed)
+      (headFrom reader packet (payloadOf packet .values) buffer)
   unfolding headFrom
   head-from-leaves placed =
       let start = payloadOf packet .values in
@@ -313,9 +332,14 @@ module _ (packet fed : List ℕ) (reader : Reader) (buffer : List ℕ) (isSound 
       (λ unit. of-either (Leaves packet (fromTarget packet) (fedNow packet fed)) _ _ _
       (λ beyond. leaves-idle packet _ _ 9 (reader .form) _ buffer (eqb-false 9 2 refl))
       (λ within.
-      subst (λ (l : List ℕ). Leaves packet (fromTarget packet) l (started (reader .form) (reader .memory) (drop (start + 1 + pointer (drop start packet)) packet) (start + 1 + pointer (drop start packet)) buffer)) (unfolded-start placed unit)
-      (subst (λ (l : List ℕ). Leaves packet l l (started (reader .form) (reader .memory) (drop (start + 1 + pointer (drop start packet)) packet) (start + 1 + pointer (drop start packet)) buffer)) (target start)
-      (started-leaves (reader .form) (reader .memory) (start + 1 + pointer (drop start packet)) (payload-sized packet placed)))))
+      subst (λ (l : List ℕ). Leaves packet (fromTarget packet) l
+      (started (reader .form) (reader .memory) (drop (start + 1 + pointer (drop start packet)) packet)
+      (start + 1 + pointer (drop start packet)) buffer)) (unfolded-start placed unit)
+      (subst (λ (l : List ℕ). Leaves packet l l
+      (started (reader .form) (reader .memory) (drop (start + 1 + pointer (drop start packet)) packet)
+      (start + 1 + pointer (drop start packet)) buffer)) (target start)
+      (started-leaves (reader .form) (reader .memory) (start + 1 + pointer (drop start packet))
+      (payload-sized packet placed)))))
       (λ none.
       leaves-answered packet (fromTarget packet) (fedNow packet fed) 0 reader buffer (eqb-false 0 2 refl)
       (subst (λ (l : List ℕ). reader .«is_open» ≡ true → Holds l reader buffer)
@@ -328,8 +352,10 @@ module _ (packet fed : List ℕ) (reader : Reader) (buffer : List ℕ) (isSound 
       (sym (from-the-payload reader packet buffer isSound lent (λ start. headFrom reader packet start buffer)))
       (of-either (Leaves packet (fromTarget packet) (fedNow packet fed)) _ _ _ head-from-leaves
       (λ none.
-      leaves-answered packet (fromTarget packet) (fedNow packet fed) (payloadOf packet .number) reader buffer (payload-not-delivered packet .not2)
-      (subst (λ (l : List ℕ). reader .«is_open» ≡ true → Holds l reader buffer) (sym (test-fails _ _ _ (test-fails _ _ _ none))) held)))
+      leaves-answered packet (fromTarget packet) (fedNow packet fed) (payloadOf packet .number) reader buffer
+      (payload-not-delivered packet .not2)
+      (subst (λ (l : List ℕ). reader .«is_open» ≡ true → Holds l reader buffer)
+      (sym (test-fails _ _ _ (test-fails _ _ _ none))) held)))
 
 -- ---- a history
 

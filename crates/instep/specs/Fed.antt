@@ -1,5 +1,5 @@
 -- "payload bytes fed from its start on, leaving out later pointer bytes and what lies at or behind a later pointer's target": from the packets alone.
-use Prim.Native.Nat.{ℕ, _+_}
+use Prim.Native.Nat.{ℕ}
 use mathlib.Core.Bool.{Bool}
 use mathlib.Core.List.{List, [], _∷_, _++_}
 use lib.ListN.{take, drop}

@@ -7,9 +7,8 @@ use Rattle.reader.specs.declared.Step.{Step}
 use Rattle.reader.specs.State.{fresh}
 use Rattle.reader.specs.Outcome.{Outcome}
 use Rattle.reader.specs.Tail.{tailOf}
-use Rattle.reader.specs.Head.{headOf}
 use Rattle.reader.specs.Delivered.{sectionOf}
-use Rattle.reader.specs.Run.{Left, after, headAfter}
+use Rattle.reader.specs.Run.{after, headAfter}
 
 -- of a step: "all answers, states and delivered bytes", the place with them
 pub record Seen : Type 0 where

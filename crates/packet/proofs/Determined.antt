@@ -1,5 +1,5 @@
 -- Any two answers that a contract allows are equal. Assumes nothing.
-use mathlib.Core.Path.{_≡_, refl, sym, ap, _∙_}
+use mathlib.Core.Path.{_≡_, sym, ap, _∙_}
 use Rattle.fields.specs.Determines.{Determines}
 use Rattle.answers.proofs.Saying.{same-values, same-refusal, given-is-not-refused}
 use Rattle.packet.specs.Header.{headerSays}

@@ -7,12 +7,11 @@ use mathlib.Core.List.{List}
 use native.Mathlib.Omega.{arith}
 use borrow.Author.Tests.{eqb-true, eq-eqb}
 use lib.ListN.{length}
-use Rattle.fields.specs.Choice.{if_then_else_, _is_}
+use Rattle.fields.specs.Choice.{_is_}
 use Rattle.fields.specs.SyntaxTable.{field, size, behind, width, valueOf}
 use Rattle.fields.specs.Word.{wordOf}
 use Rattle.fields.proofs.Choices.{test-holds, test-fails, first-chosen, either-way}
 use Rattle.fields.proofs.SyntaxTables.{field-of-word}
-use Rattle.answers.specs.Numbers.{packetSize, noSyncByte}
 use Rattle.answers.specs.Says.{Says, given, refused}
 use Rattle.answers.specs.Refusals.{numberOf}
 use Rattle.answers.specs.declared.Refusal.{Refusal}

@@ -1,13 +1,12 @@
 -- How bytes continue an open section, by how many there are. Assumes nothing.
 use Prim.Native.Nat.{ℕ, _+_, _-_, _≤_, _<_}
-use mathlib.Core.Path.{_≡_, refl, sym, ap, _∙_}
+use mathlib.Core.Path.{_≡_, _∙_}
 use mathlib.Core.Bool.{true, false}
 use mathlib.Core.List.{List}
 use native.Mathlib.Omega.{arith}
 use lib.ListN.{length, take}
 use lib.Seq.{take-all, length-take-le}
 use borrow.Author.Tests.{lt-ltb, le-ltb}
-use Rattle.fields.specs.Choice.{if_then_else_}
 use Rattle.fields.specs.Laid.{laid}
 use Rattle.fields.proofs.Choices.{test-holds, test-fails}
 use Rattle.answers.specs.Numbers.{bytesKept, noSectionOpen}
@@ -31,7 +30,8 @@ module _ (reader : Reader) (bytes buffer : List ℕ) where
         (laid buffer (reader .held) bytes)
     unfolding continued
     continued-short short =
-        let all : take (reader .wanted - reader .held) bytes ≡ bytes = take-all (reader .wanted - reader .held) bytes (omega arith) in
+        let all : take (reader .wanted - reader .held) bytes ≡ bytes = take-all (reader .wanted - reader .held) bytes
+        (omega arith) in
         let wants : reader .held + length bytes < reader .wanted = omega arith in
         test-holds _ _ _ isOpen ∙ rw all (test-holds _ _ _ (lt-ltb _ _ wants))
 
@@ -44,6 +44,7 @@ module _ (reader : Reader) (bytes buffer : List ℕ) where
         (laid buffer (reader .held) (take (reader .wanted - reader .held) bytes))
     unfolding continued
     continued-whole below enough =
-        let l : length (take (reader .wanted - reader .held) bytes) ≡ reader .wanted - reader .held = length-take-le _ bytes enough in
+        let l : length (take (reader .wanted - reader .held) bytes)
+        ≡ reader .wanted - reader .held = length-take-le _ bytes enough in
         let none : reader .wanted ≤ reader .held + length (take (reader .wanted - reader .held) bytes) = omega arith in
         test-holds _ _ _ isOpen ∙ test-fails _ _ _ (le-ltb _ _ none)

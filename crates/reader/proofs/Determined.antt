@@ -1,5 +1,5 @@
 -- Any two answers that a contract allows are equal, and so is what the buffer holds after them. Assumes nothing.
-use mathlib.Core.Path.{_≡_, sym, ap, _∙_}
+use mathlib.Core.Path.{sym, ap, _∙_}
 use denote.Ref.{now}
 use Rattle.fields.specs.Determines.{Determines, DeterminesBoth, DeterminesBytes}
 use Rattle.reader.specs.Outcome.{Outcome}

@@ -1,24 +1,22 @@
 -- A sound state and a buffer of 1,024 bytes stay so through both steps, and a step on them answers neither 5 nor 25. Assumes nothing.
 use Prim.Native.Nat.{ℕ, _+_, _-_, _≤_, _<_}
-use mathlib.Core.Path.{_≡_, refl, sym, ap, _∙_, subst}
+use mathlib.Core.Path.{_≡_, refl, sym, _∙_, subst}
 use mathlib.Core.Bool.{Bool, true, false}
 use mathlib.Core.List.{List, [], _∷_}
 use native.Mathlib.Omega.{arith}
-use lib.ListN.{length, take, drop, length-take, length-drop}
+use lib.ListN.{length, drop, length-take, length-drop}
 use borrow.Author.Tests.{eq-eqb, eqb-true, eqb-false, le-leb, lt-ltb, ltb-true, leb-false}
-use Rattle.fields.specs.Choice.{if_then_else_, _is_, _isBelow_, _isAtMost_}
-use Rattle.fields.specs.Laid.{laid}
+use Rattle.fields.specs.Choice.{if_then_else_, _is_}
 use Rattle.fields.proofs.Choices.{test-holds, and-holds, of-both, of-either}
 use Rattle.fields.proofs.LaidBytes.{laid-length}
-use Rattle.answers.specs.Says.{Says, given, refused}
+use Rattle.answers.specs.Says.{Says}
 use Rattle.packet.specs.Header.{ofAPacket}
 use Rattle.packet.specs.Payload.{startingAt, payloadBehind}
 use Rattle.psi.specs.Header.{wanted, versionNumber}
 use Rattle.psi.proofs.Sections.{version-number-below-32}
 use Rattle.reader.specs.State.{leastHeld, noMemory, soundMemory, soundCounts, sound, idle, opened, fresh}
-use Rattle.reader.specs.Outcome.{Outcome, outcome, answered, forgotten, inBuffer, inPacket}
+use Rattle.reader.specs.Outcome.{Outcome, outcome, answered}
 use Rattle.reader.specs.Checks.{checked, fromAPlace, fromThePayload}
-use Rattle.reader.specs.Pointer.{unitStart, pointer, rest, pointsBeyond}
 use Rattle.reader.specs.Whole.{crcVerdict, verdict, whole}
 use Rattle.reader.specs.Tail.{copied, filled, continued, tailFrom, tailOf}
 use Rattle.reader.specs.Head.{atStart, startRefusal, begun, afterRefusal, started, headFrom, headOf}
@@ -29,7 +27,7 @@ use Rattle.reader.specs.declared.Place.{Place}
 use Rattle.reader.specs.declared.Reader.{Reader}
 use Rattle.reader.specs.declared.Step.{Step}
 use Rattle.reader.proofs.Soundness.{open-sound}
-use Rattle.reader.proofs.Checking.{passed}
+use Rattle.reader.proofs.Checking.{found-place}
 use Rattle.reader.proofs.Starts.{Starts, starts}
 
 another : (n : ℕ) → (n is 5) ≡ false → (n is 25) ≡ false → NotTheHosts n
@@ -77,7 +75,8 @@ verdict-answers Form.Compact section = another 2 refl refl
 verdict-answers Form.Full section = crc-verdict-answers section
 verdict-answers Form.Once section = crc-verdict-answers section
 
-whole-keeps : (form : Form) (memory : Memory) (place : Place) (section buffer : List ℕ) → soundMemory form memory ≡ true → length buffer ≡ 1024
+whole-keeps : (form : Form) (memory : Memory) (place : Place) (section buffer : List ℕ) → soundMemory form memory ≡ true
+    → length buffer ≡ 1024
     → Keeps (outcome (whole form memory place section) buffer)
 unfolding whole
 whole-keeps form memory place section buffer h l =
@@ -102,12 +101,14 @@ module _ (reader : Reader) (buffer : List ℕ) (isSound : sound reader ≡ true)
       let o = open-sound reader isSound isOpen in
       let m = memory-sound reader isSound in
       let few : length (copied reader bytes) ≤ reader .wanted - reader .held = simp length-take (omega arith) in
-      let l : length (filled reader bytes buffer) ≡ 1024 = laid-length buffer (reader .held) (copied reader bytes) (omega arith) ∙ lent in
+      let l : length (filled reader bytes buffer) ≡ 1024 = laid-length buffer (reader .held) (copied reader bytes) (omega arith)
+      ∙ lent in
       of-either Keeps _ _ _
       (λ wants.
       let below = ltb-true (reader .held + length (copied reader bytes)) (reader .wanted) wants in
       record {
-        soundState = opened-sound (reader .form) (reader .memory) _ (reader .wanted) m (omega (arith, o .least)) below (o .fits);
+        soundState = opened-sound (reader .form) (reader .memory) _ (reader .wanted) m (omega (arith, o .least)) below
+            (o .fits);
         lent = l;
         answers = another 1 refl refl;
       })
@@ -126,7 +127,8 @@ module _ (reader : Reader) (buffer : List ℕ) (isSound : sound reader ≡ true)
 
 -- ---- the head
 
-at-start-sound : (form : Form) (memory : Memory) (bytes : List ℕ) → soundMemory form memory ≡ true → leastHeld form ≤ length bytes
+at-start-sound : (form : Form) (memory : Memory) (bytes : List ℕ) → soundMemory form memory ≡ true
+    → leastHeld form ≤ length bytes
     → soundMemory form (atStart form memory bytes) ≡ true
 unfolding atStart soundMemory if_then_else_
 at-start-sound Form.Compact memory bytes h l = h
@@ -136,7 +138,8 @@ at-start-sound Form.Once memory bytes h l =
     let most : versionNumber bytes ≤ 31 = omega arith in
     le-leb _ _ most
 
-after-refusal-sound : (form : Form) (n : ℕ) (memory : Memory) → soundMemory form memory ≡ true → soundMemory form (afterRefusal n memory) ≡ true
+after-refusal-sound : (form : Form) (n : ℕ) (memory : Memory) → soundMemory form memory ≡ true
+    → soundMemory form (afterRefusal n memory) ≡ true
 after-refusal-sound form n memory h =
     of-both (λ (m : Memory). soundMemory form m ≡ true) _ _ _ (nothing-remembered-sound form) h
 
@@ -168,7 +171,8 @@ module _ (form : Form) (memory : Memory) (bytes : List ℕ) (at : ℕ) (buffer :
   unfolding started
   started-keeps =
       of-either Keeps _ _ _
-      (λ none. let s = starts form memory bytes (eqb-true _ _ none) in begun-keeps s (at-start-sound form memory bytes m (s .least)))
+      (λ none. let s = starts form memory bytes (eqb-true _ _ none) in begun-keeps s
+      (at-start-sound form memory bytes m (s .least)))
       (λ refusal. record {
         soundState = idle-sound form _ (after-refusal-sound form (startRefusal form memory bytes) memory m);
         lent = lent;
@@ -201,10 +205,10 @@ module _ (reader : Reader) (packet buffer : List ℕ) (isSound : sound reader �
       → Keeps (fromThePayload reader packet buffer goOn)
   unfolding fromThePayload fromAPlace
   from-the-payload-keeps goOn keeps =
-      let place = checked (sound reader) packet (length buffer) in
-      of-either Keeps _ _ _ (λ found. keeps _ (passed _ _ _ (place .values) (ap (λ (n : ℕ). record { number = n; values = place .values }) (sym (eqb-true _ _ found))) .sized))
+      of-either Keeps _ _ _ (λ found. keeps _ (found-place _ packet _ found .sized))
       (λ refusal. same-keeps reader buffer isSound lent _
-      (subst (λ (t : Bool). NotTheHosts (checked t packet (length buffer) .number)) (sym isSound) (checked-answers packet (length buffer) lent)))
+      (subst (λ (t : Bool). NotTheHosts (checked t packet (length buffer) .number)) (sym isSound)
+      (checked-answers packet (length buffer) lent)))
 
   -- "the state after either step is sound whenever the state before was"
   pub tail-keeps : Keeps (tailOf reader packet buffer)
@@ -217,7 +221,8 @@ module _ (reader : Reader) (packet buffer : List ℕ) (isSound : sound reader �
       let m = memory-sound reader isSound in
       of-either Keeps _ _ _
       (λ unit. of-either Keeps _ _ _
-      (λ beyond. idle-keeps reader buffer isSound lent 9 noMemory (nothing-remembered-sound (reader .form)) (another 9 refl refl))
+      (λ beyond. idle-keeps reader buffer isSound lent 9 noMemory (nothing-remembered-sound (reader .form))
+      (another 9 refl refl))
       (λ within. started-keeps (reader .form) (reader .memory) _ _ buffer m lent (simp length-drop (omega arith))))
       (λ none. same-keeps reader buffer isSound lent 0 (another 0 refl refl))
 

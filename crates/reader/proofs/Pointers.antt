@@ -1,6 +1,6 @@
 -- What the code found of the pointer, said of the payload. Assumes nothing.
 use Prim.Native.Nat.{ℕ, _+_, _<_, _≤_}
-use mathlib.Core.Path.{_≡_, refl, sym, ap, _∙_}
+use mathlib.Core.Path.{_≡_, refl, sym, _∙_}
 use mathlib.Core.Bool.{Bool, true, false}
 use mathlib.Core.List.{List}
 use native.Mathlib.Omega.{arith}
@@ -33,7 +33,8 @@ module _ (packet : List ℕ) (start : ℕ) where
       let within = second-chosen _ _ _ _ (unit .1) (λ f. let z : _≡_ {A = ℕ} 0 1 = cc in omega arith) in
       record { started = unit .0; within = within .0; target = let e : pointer (drop start packet) ≡ to = cc in e }
 
-  pub points-beyond : pointerOf packet start ≡ Pointer.BeyondRest → (unitStart packet ≡ true) × (pointsBeyond (drop start packet) ≡ true)
+  pub points-beyond : pointerOf packet start ≡ Pointer.BeyondRest → (unitStart packet ≡ true)
+      × (pointsBeyond (drop start packet) ≡ true)
   unfolding pointerOf
   points-beyond e =
       let unit = first-chosen _ _ _ _ e (λ f. let z : _≡_ {A = ℕ} 0 1 = cc in omega arith) in
@@ -41,21 +42,25 @@ module _ (packet : List ℕ) (start : ℕ) where
       (unit .0, beyond .0)
 
 -- a pointer that is not beyond the rest, and not 0, points into it
-pub points-within : (payload : List ℕ) → pointsBeyond payload ≡ false → 0 < pointer payload → pointer payload < length (rest payload)
+pub points-within : (payload : List ℕ) → pointsBeyond payload ≡ false → 0 < pointer payload
+    → pointer payload < length (rest payload)
 unfolding if_then_else_
-points-within payload within above = leb-false _ _ (sym (test-holds (pointer payload isAbove 0) _ _ (lt-ltb _ _ above)) ∙ within)
+points-within payload within above = leb-false _ _ (sym (test-holds (pointer payload isAbove 0) _ _ (lt-ltb _ _ above))
+    ∙ within)
 
 pub beyond-is-not-0 : (payload : List ℕ) → pointsBeyond payload ≡ true → pointer payload ≡ 0 → ⊥
 beyond-is-not-0 payload beyond e = let above = ltb-true 0 (pointer payload) (and-holds _ _ beyond .0) in omega arith
 
 -- then the bytes up to its target lie in the packet
-pub end-within : (packet : List ℕ) (start to : ℕ) → PointsTo packet start to → length packet ≡ 188 → (to ≡ 0 → ⊥) → start + 1 + to < 188
+pub end-within : (packet : List ℕ) (start to : ℕ) → PointsTo packet start to → length packet ≡ 188 → (to ≡ 0 → ⊥)
+    → start + 1 + to < 188
 end-within packet start to points sized above =
     let into = points-within (drop start packet) (points .within) (rw (points .target) (omega arith)) in
     omega (arith, simp (length-drop, points .target) at into)
 
 -- and its target lies in it, or just behind
-pub target-within : (packet : List ℕ) (start to : ℕ) → PointsTo packet start to → length packet ≡ 188 → start < 188 → start + 1 + to ≤ 188
+pub target-within : (packet : List ℕ) (start to : ℕ) → PointsTo packet start to → length packet ≡ 188 → start < 188
+    → start + 1 + to ≤ 188
 target-within packet start to points sized inside = by-cases (to is 0) refl
   where
     by-cases : (t : Bool) → (to is 0) ≡ t → start + 1 + to ≤ 188

@@ -1,11 +1,10 @@
 -- What a sound state says. Assumes nothing.
-use Prim.Native.Nat.{ℕ, _≤_, _<_}
-use mathlib.Core.Path.{_≡_, refl, sym, _∙_}
-use mathlib.Core.Bool.{Bool, true, false}
+use Prim.Native.Nat.{_≤_, _<_}
+use mathlib.Core.Path.{_≡_, sym, _∙_}
+use mathlib.Core.Bool.{true}
 use borrow.Author.Tests.{leb-true, ltb-true}
-use Rattle.fields.specs.Choice.{if_then_else_}
 use Rattle.fields.proofs.Choices.{and-holds, test-holds}
-use Rattle.reader.specs.State.{leastHeld, soundMemory, soundCounts, sound}
+use Rattle.reader.specs.State.{leastHeld, soundCounts, sound}
 use Rattle.reader.specs.declared.Reader.{Reader}
 
 -- an open state that is sound

@@ -1,15 +1,15 @@
 -- What refuses the start of a section, and what is known where nothing does. Assumes nothing.
-use Prim.Native.Nat.{ℕ, _+_, _≤_, _<_}
+use Prim.Native.Nat.{ℕ, _≤_}
 use mathlib.Core.Path.{_≡_, sym, ap, _∙_}
-use mathlib.Core.Bool.{Bool, true, false}
+use mathlib.Core.Bool.{true, false}
 use mathlib.Core.List.{List}
 use native.Mathlib.Omega.{arith}
-use lib.ListN.{length, drop}
+use lib.ListN.{length}
 use borrow.Author.Tests.{lt-ltb, le-ltb, ltb-false}
 use Rattle.fields.specs.Choice.{if_then_else_, _isBelow_, _isAbove_}
 use Rattle.fields.proofs.Choices.{test-holds, test-fails, first-chosen, second-chosen}
 use Rattle.answers.specs.Numbers.{under3Bytes, syntaxIndicator, under8Bytes, lengthAbove1021, versionRepeated}
-use Rattle.answers.specs.Says.{Says, given, refused}
+use Rattle.answers.specs.Says.{given, refused}
 use Rattle.answers.specs.Refusals.{numberOf}
 use Rattle.answers.specs.declared.Refusal.{Refusal}
 use Rattle.psi.specs.Header.{sectionLength, lengthLimit, fieldsOf, noHeader, headerOf}
@@ -21,12 +21,14 @@ use Rattle.reader.specs.declared.Form.{Form}
 use Rattle.reader.specs.declared.Memory.{Memory}
 
 module _ (form : Form) (memory : Memory) (bytes : List ℕ) where
-  pub start-without-header : (refusal : Refusal) → refused (numberOf refusal) noHeader ≡ headerOf bytes → startRefusal form memory bytes ≡ under3Bytes
+  pub start-without-header : (refusal : Refusal) → refused (numberOf refusal) noHeader ≡ headerOf bytes
+      → startRefusal form memory bytes ≡ under3Bytes
   unfolding startRefusal
   start-without-header refusal e = test-holds _ _ _ (lt-ltb _ _ (header-refused bytes refusal e .0))
 
   module _ (header : SectionCommonHeader) (is : given header ≡ headerOf bytes) where
-    pub start-of-other-syntax : takesSyntax form (header .«section_syntax_indicator») ≡ false → startRefusal form memory bytes ≡ syntaxIndicator
+    pub start-of-other-syntax : takesSyntax form (header .«section_syntax_indicator») ≡ false → startRefusal form memory bytes
+        ≡ syntaxIndicator
     unfolding startRefusal fieldsOf
     start-of-other-syntax other =
         let known = header-given bytes header is in
@@ -46,7 +48,8 @@ module _ (form : Form) (memory : Memory) (bytes : List ℕ) where
         test-fails _ _ _ (le-ltb _ _ (known .0))
         ∙ test-holds _ _ _ (sym (ap (λ h. takesSyntax form (h .«section_syntax_indicator»)) (known .1)) ∙ its)
         ∙ ap
-        (λ (n : ℕ). if length bytes isBelow leastHeld form then under8Bytes else if n isAbove lengthLimit then lengthAbove1021 else if repeats form memory bytes then versionRepeated else 0)
+        (λ (n : ℕ). if length bytes isBelow leastHeld form then under8Bytes else if n isAbove lengthLimit then lengthAbove1021
+        else if repeats form memory bytes then versionRepeated else 0)
         (sym long)
 
   -- a section starts with these bytes

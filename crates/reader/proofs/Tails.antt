@@ -3,15 +3,13 @@ use Prim.Native.Nat.{ℕ, _+_}
 use mathlib.Core.Path.{_≡_, sym, ap, _∙_}
 use mathlib.Core.Bool.{true, false}
 use mathlib.Core.List.{List}
-use native.Mathlib.Omega.{arith}
 use lib.ListN.{take, drop}
 use lib.Seq.{drop-drop}
 use borrow.Author.Tests.{eq-eqb, ne-eqb}
-use Rattle.fields.specs.Choice.{if_then_else_, _is_}
 use Rattle.fields.proofs.Choices.{test-holds, test-fails}
 use Rattle.answers.specs.Numbers.{nothingForThisStep, pointerBeyondRest}
 use Rattle.reader.specs.Outcome.{outcome, answered, forgotten}
-use Rattle.reader.specs.Pointer.{unitStart, pointer, rest, pointsBeyond}
+use Rattle.reader.specs.Pointer.{unitStart, pointsBeyond}
 use Rattle.reader.specs.Tail.{continued, tailFrom}
 use Rattle.reader.specs.declared.Reader.{Reader}
 use Rattle.reader.proofs.Pointers.{PointsTo, beyond-is-not-0}
@@ -22,7 +20,8 @@ module _ (reader : Reader) (packet : List ℕ) (start : ℕ) (buffer : List ℕ)
   unfolding tailFrom
   tail-without-unit-start none = test-fails _ _ _ none
 
-  pub tail-at-0 : PointsTo packet start 0 → tailFrom reader packet (drop start packet) buffer ≡ outcome (answered nothingForThisStep reader) buffer
+  pub tail-at-0 : PointsTo packet start 0 → tailFrom reader packet (drop start packet) buffer
+      ≡ outcome (answered nothingForThisStep reader) buffer
   unfolding tailFrom
   tail-at-0 points = test-holds _ _ _ (points .started) ∙ test-holds _ _ _ (eq-eqb _ _ (points .target))
 

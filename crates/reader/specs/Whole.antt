@@ -10,7 +10,7 @@ use Rattle.reader.specs.declared.Memory.{Memory}
 use Rattle.reader.specs.declared.Place.{Place}
 use Rattle.reader.specs.declared.Step.{Step}
 use Rattle.reader.specs.State.{idle}
-use Rattle.reader.specs.Outcome.{nowhere, answered}
+use Rattle.reader.specs.Outcome.{answered}
 
 -- "under 12 bytes, 16; CRC remainder not zero, 17; else 2"
 unfoldable pub crcVerdict : List ℕ → ℕ

@@ -72,233 +72,6 @@ pub enum Pointer {
     BeyondRest,
 }
 
-// Lays the bytes into the buffer, from the place `at` on.
-fn lay(buffer: &mut [u8], at: usize, bytes: &[u8])
-    requires { ⌜ at + length (now bytes) ≤ length (now buffer) ⌝ }
-    ensures { λ _. ⌜ now (buffer .exit) ≡ laid (now (buffer .entry)) at (now (bytes .entry)) ⌝ }
-{
-    let mut i = 0;
-    while i < bytes.len() {
-        buffer[at + i] = bytes[i];
-        i += 1;
-    }
-}
-
-fn least_held(form: Form) -> u16
-    ensures { λ r. ⌜ r ≡ leastHeld form ⌝ }
-{
-    match form {
-        Form::Compact => 3,
-        Form::Full => 8,
-        Form::Once => 8,
-    }
-}
-
-// What both steps test first: the payload's place, or 3, 4, 5, 25, 6, 7, 8.
-fn checked(is_sound: bool, packet: &[u8], buffer: usize) -> Payload
-    ensures { λ r. ⌜ payloadSays r ≡ checked «is_sound» (now (packet .entry)) buffer ⌝ }
-{
-    match Packet::header(packet) {
-        HeaderAnswer::Is(_) => {
-            if buffer != Reader::BUFFER_SIZE {
-                return Payload::Refused(Refusal::BufferSize);
-            }
-            if is_sound {
-                return Packet::payload(packet);
-            }
-            Payload::Refused(Refusal::StateNotSound)
-        }
-        HeaderAnswer::Refused(refusal) => Payload::Refused(refusal),
-    }
-}
-
-// What the pointer says in a packet whose payload starts there.
-fn pointer_at(packet: &[u8], start: usize) -> Pointer
-    requires { ⌜ (length (now packet) ≡ 188) × (start < 188) ⌝ }
-    ensures { λ r. ⌜ r ≡ pointerOf (now (packet .entry)) start ⌝ }
-{
-    if (word(packet, 0, 4) >> 22) % 2 != 1 {
-        return Pointer::NoUnitStart;
-    }
-    let to = (word(packet, start, 1) % 256) as usize;
-    if 0 < to {
-        if packet.len() - start - 1 <= to {
-            return Pointer::BeyondRest;
-        }
-        return Pointer::To(to);
-    }
-    Pointer::To(to)
-}
-
-// 2, or why a whole section is refused: 16, 17.
-fn crc_verdict(section: &[u8]) -> u8
-    ensures { λ r. ⌜ r ≡ crcVerdict (now (section .entry)) ⌝ }
-{
-    if section.len() < 12 {
-        return Answer::SECTION_UNDER_12;
-    }
-    if sum32(section) == 0 {
-        return Answer::DELIVERED;
-    }
-    Answer::CRC_NOT_ZERO
-}
-
-fn verdict(form: Form, section: &[u8]) -> u8
-    ensures { λ r. ⌜ r ≡ verdict form (now (section .entry)) ⌝ }
-{
-    match form {
-        Form::Compact => Answer::DELIVERED,
-        Form::Full => crc_verdict(section),
-        Form::Once => crc_verdict(section),
-    }
-}
-
-// How a whole section that lies there ends.
-fn whole(form: Form, memory: Memory, place: Place, section: &[u8]) -> Step
-    ensures { λ r. ⌜ r ≡ whole form memory place (now (section .entry)) ⌝ }
-{
-    let answer = verdict(form, section);
-    if answer == Answer::DELIVERED {
-        return Step {
-            reader: Reader::idle(form, memory),
-            place,
-            answer: Answer::DELIVERED,
-        };
-    }
-    Step::answered(answer, Reader::idle(form, memory))
-}
-
-fn takes_syntax(form: Form, indicator: bool) -> bool
-    ensures { λ r. ⌜ r ≡ takesSyntax form indicator ⌝ }
-{
-    match form {
-        Form::Compact => !indicator,
-        Form::Full => indicator,
-        Form::Once => indicator,
-    }
-}
-
-// The version of a section that has its table header.
-fn version(section: &[u8]) -> u8
-    requires { ⌜ 8 ≤ length (now section) ⌝ }
-    ensures { λ r. ⌜ r ≡ versionNumber (now (section .entry)) ⌝ }
-{
-    match Section::table_header(section) {
-        TableHeaderAnswer::Is(header) => header.version,
-        TableHeaderAnswer::Refused(_) => 0,
-    }
-}
-
-// How many bytes a section has that has its header.
-fn wanted(section: &[u8]) -> u16
-    requires { ⌜ 3 ≤ length (now section) ⌝ }
-    ensures { λ r. ⌜ r ≡ wanted (now (section .entry)) ⌝ }
-{
-    match Section::header(section) {
-        psi::HeaderAnswer::Is(header) => 3 + header.section_length,
-        psi::HeaderAnswer::Refused(_) => 0,
-    }
-}
-
-// 10 to 14, or 0 where a section starts with these bytes.
-fn start_refusal(form: Form, memory: Memory, bytes: &[u8]) -> u8
-    ensures { λ r. ⌜ r ≡ startRefusal form memory (now (bytes .entry)) ⌝ }
-{
-    let psi::HeaderAnswer::Is(header) = Section::header(bytes) else {
-        return Answer::UNDER_3_BYTES;
-    };
-    if takes_syntax(form, header.section_syntax_indicator) {
-        if bytes.len() < least_held(form) as usize {
-            return Answer::UNDER_8_BYTES;
-        }
-        if Section::LENGTH_LIMIT < header.section_length {
-            return Answer::LENGTH_ABOVE_1021;
-        }
-        if memory.repeats(form, bytes) {
-            return Answer::VERSION_REPEATED;
-        }
-        return 0;
-    }
-    Answer::SYNTAX_INDICATOR
-}
-
-// A section starts with these bytes, which stand at `at` in the packet: it is whole, or all of them are kept.
-fn begun(form: Form, memory: Memory, bytes: &[u8], at: usize, buffer: &mut [u8]) -> Step
-    requires { ⌜ (3 ≤ length (now bytes)) × (length (now bytes) ≤ 188) × (at ≤ 188) × (length (now buffer) ≡ 1024) ⌝ }
-    ensures { λ r. ⌜ outcome r (now (buffer .exit)) ≡ begun form memory (now (bytes .entry)) at (now (buffer .entry)) ⌝ }
-{
-    let size = wanted(bytes);
-    let end = size as usize;
-    if end <= bytes.len() {
-        return whole(
-            form,
-            memory,
-            Place::in_packet(at as u16, size),
-            &bytes[..end],
-        );
-    }
-    lay(buffer, 0, bytes);
-    Step::answered(
-        Answer::BYTES_KEPT,
-        Reader::opened(form, memory, bytes.len() as u16, size),
-    )
-}
-
-// What is remembered where a start is refused.
-fn after_refusal(refusal: u8, memory: Memory) -> Memory
-    ensures { λ r. ⌜ r ≡ afterRefusal refusal memory ⌝ }
-{
-    if refusal == Answer::UNDER_3_BYTES {
-        return Memory::none();
-    }
-    memory
-}
-
-// The bytes, which stand at `at` in the packet, start a section, or are refused.
-fn started(form: Form, memory: Memory, bytes: &[u8], at: usize, buffer: &mut [u8]) -> Step
-    requires { ⌜ (length (now bytes) ≤ 188) × (at ≤ 188) × (length (now buffer) ≡ 1024) ⌝ }
-    ensures { λ r. ⌜ outcome r (now (buffer .exit)) ≡ started form memory (now (bytes .entry)) at (now (buffer .entry)) ⌝ }
-{
-    let refusal = start_refusal(form, memory, bytes);
-    if refusal == 0 {
-        let remembered = memory.at_start(form, bytes);
-        return begun(form, remembered, bytes, at, buffer);
-    }
-    let remembered = after_refusal(refusal, memory);
-    Step::answered(refusal, Reader::idle(form, remembered))
-}
-
-// The part of the bytes that starts there, of that length; empty where it does not lie within.
-fn part(bytes: &[u8], start: usize, len: usize) -> &[u8]
-    ensures { λ r. ⌜ now r ≡ partOf (now (bytes .entry)) start len ⌝ }
-{
-    if bytes.len() < start {
-        return &bytes[..0];
-    }
-    if bytes.len() - start < len {
-        return &bytes[..0];
-    }
-    let end = start + len;
-    &bytes[start..end]
-}
-
-// A delivered section, as a part of the packet or of the buffer; empty for any other answer, and for a place that does not lie within.
-pub fn section<'a>(packet: &'a [u8], buffer: &'a [u8], answer: u8, place: Place) -> &'a [u8]
-    ensures { λ r. ⌜ now r ≡ sectionOf (now (packet .entry)) (now (buffer .entry)) answer place ⌝ }
-{
-    if answer != Answer::DELIVERED {
-        return &packet[..0];
-    }
-    let start = place.start as usize;
-    let len = place.len as usize;
-    let holder = place.holder;
-    match holder {
-        Holder::Nowhere => &packet[..0],
-        Holder::Packet => part(packet, start, len),
-        Holder::Buffer => part(buffer, start, len),
-    }
-}
-
 impl Place {
     fn in_packet(start: u16, len: u16) -> Self
         ensures { λ r. ⌜ r ≡ inPacket start len ⌝ }
@@ -335,6 +108,16 @@ impl Step {
             },
             answer,
         }
+    }
+}
+
+fn least_held(form: Form) -> u16
+    ensures { λ r. ⌜ r ≡ leastHeld form ⌝ }
+{
+    match form {
+        Form::Compact => 3,
+        Form::Full => 8,
+        Form::Once => 8,
     }
 }
 
@@ -458,7 +241,95 @@ impl Reader {
         }
         false
     }
+}
 
+// What both steps test first: the payload's place, or 3, 4, 5, 25, 6, 7, 8.
+fn checked(is_sound: bool, packet: &[u8], buffer: usize) -> Payload
+    ensures { λ r. ⌜ payloadSays r ≡ checked «is_sound» (now (packet .entry)) buffer ⌝ }
+{
+    match Packet::header(packet) {
+        HeaderAnswer::Is(_) => {
+            if buffer != Reader::BUFFER_SIZE {
+                return Payload::Refused(Refusal::BufferSize);
+            }
+            if is_sound {
+                return Packet::payload(packet);
+            }
+            Payload::Refused(Refusal::StateNotSound)
+        }
+        HeaderAnswer::Refused(refusal) => Payload::Refused(refusal),
+    }
+}
+
+// What the pointer says in a packet whose payload starts there.
+fn pointer_at(packet: &[u8], start: usize) -> Pointer
+    requires { ⌜ (length (now packet) ≡ 188) × (start < 188) ⌝ }
+    ensures { λ r. ⌜ r ≡ pointerOf (now (packet .entry)) start ⌝ }
+{
+    if (word(packet, 0, 4) >> 22) % 2 != 1 {
+        return Pointer::NoUnitStart;
+    }
+    let to = (word(packet, start, 1) % 256) as usize;
+    if 0 < to {
+        if packet.len() - start - 1 <= to {
+            return Pointer::BeyondRest;
+        }
+        return Pointer::To(to);
+    }
+    Pointer::To(to)
+}
+
+// Lays the bytes into the buffer, from the place `at` on.
+fn lay(buffer: &mut [u8], at: usize, bytes: &[u8])
+    requires { ⌜ at + length (now bytes) ≤ length (now buffer) ⌝ }
+    ensures { λ _. ⌜ now (buffer .exit) ≡ laid (now (buffer .entry)) at (now (bytes .entry)) ⌝ }
+{
+    let mut i = 0;
+    while i < bytes.len() {
+        buffer[at + i] = bytes[i];
+        i += 1;
+    }
+}
+
+// 2, or why a whole section is refused: 16, 17.
+fn crc_verdict(section: &[u8]) -> u8
+    ensures { λ r. ⌜ r ≡ crcVerdict (now (section .entry)) ⌝ }
+{
+    if section.len() < 12 {
+        return Answer::SECTION_UNDER_12;
+    }
+    if sum32(section) == 0 {
+        return Answer::DELIVERED;
+    }
+    Answer::CRC_NOT_ZERO
+}
+
+fn verdict(form: Form, section: &[u8]) -> u8
+    ensures { λ r. ⌜ r ≡ verdict form (now (section .entry)) ⌝ }
+{
+    match form {
+        Form::Compact => Answer::DELIVERED,
+        Form::Full => crc_verdict(section),
+        Form::Once => crc_verdict(section),
+    }
+}
+
+// How a whole section that lies there ends.
+fn whole(form: Form, memory: Memory, place: Place, section: &[u8]) -> Step
+    ensures { λ r. ⌜ r ≡ whole form memory place (now (section .entry)) ⌝ }
+{
+    let answer = verdict(form, section);
+    if answer == Answer::DELIVERED {
+        return Step {
+            reader: Reader::idle(form, memory),
+            place,
+            answer: Answer::DELIVERED,
+        };
+    }
+    Step::answered(answer, Reader::idle(form, memory))
+}
+
+impl Reader {
     // The bytes continue the open section.
     fn continued(self, bytes: &[u8], buffer: &mut [u8]) -> Step
         requires { ⌜ (length (now buffer) ≡ 1024) × (sound self ≡ true) ⌝ }
@@ -521,7 +392,109 @@ impl Reader {
         };
         self.tail_from(packet, start, buffer)
     }
+}
 
+fn takes_syntax(form: Form, indicator: bool) -> bool
+    ensures { λ r. ⌜ r ≡ takesSyntax form indicator ⌝ }
+{
+    match form {
+        Form::Compact => !indicator,
+        Form::Full => indicator,
+        Form::Once => indicator,
+    }
+}
+
+// The version of a section that has its table header.
+fn version(section: &[u8]) -> u8
+    requires { ⌜ 8 ≤ length (now section) ⌝ }
+    ensures { λ r. ⌜ r ≡ versionNumber (now (section .entry)) ⌝ }
+{
+    match Section::table_header(section) {
+        TableHeaderAnswer::Is(header) => header.version,
+        TableHeaderAnswer::Refused(_) => 0,
+    }
+}
+
+// How many bytes a section has that has its header.
+fn wanted(section: &[u8]) -> u16
+    requires { ⌜ 3 ≤ length (now section) ⌝ }
+    ensures { λ r. ⌜ r ≡ wanted (now (section .entry)) ⌝ }
+{
+    match Section::header(section) {
+        psi::HeaderAnswer::Is(header) => 3 + header.section_length,
+        psi::HeaderAnswer::Refused(_) => 0,
+    }
+}
+
+// 10 to 14, or 0 where a section starts with these bytes.
+fn start_refusal(form: Form, memory: Memory, bytes: &[u8]) -> u8
+    ensures { λ r. ⌜ r ≡ startRefusal form memory (now (bytes .entry)) ⌝ }
+{
+    let psi::HeaderAnswer::Is(header) = Section::header(bytes) else {
+        return Answer::UNDER_3_BYTES;
+    };
+    if takes_syntax(form, header.section_syntax_indicator) {
+        if bytes.len() < least_held(form) as usize {
+            return Answer::UNDER_8_BYTES;
+        }
+        if Section::LENGTH_LIMIT < header.section_length {
+            return Answer::LENGTH_ABOVE_1021;
+        }
+        if memory.repeats(form, bytes) {
+            return Answer::VERSION_REPEATED;
+        }
+        return 0;
+    }
+    Answer::SYNTAX_INDICATOR
+}
+
+// What is remembered where a start is refused.
+fn after_refusal(refusal: u8, memory: Memory) -> Memory
+    ensures { λ r. ⌜ r ≡ afterRefusal refusal memory ⌝ }
+{
+    if refusal == Answer::UNDER_3_BYTES {
+        return Memory::none();
+    }
+    memory
+}
+
+// A section starts with these bytes, which stand at `at` in the packet: it is whole, or all of them are kept.
+fn begun(form: Form, memory: Memory, bytes: &[u8], at: usize, buffer: &mut [u8]) -> Step
+    requires { ⌜ (3 ≤ length (now bytes)) × (length (now bytes) ≤ 188) × (at ≤ 188) × (length (now buffer) ≡ 1024) ⌝ }
+    ensures { λ r. ⌜ outcome r (now (buffer .exit)) ≡ begun form memory (now (bytes .entry)) at (now (buffer .entry)) ⌝ }
+{
+    let size = wanted(bytes);
+    let end = size as usize;
+    if end <= bytes.len() {
+        return whole(
+            form,
+            memory,
+            Place::in_packet(at as u16, size),
+            &bytes[..end],
+        );
+    }
+    lay(buffer, 0, bytes);
+    Step::answered(
+        Answer::BYTES_KEPT,
+        Reader::opened(form, memory, bytes.len() as u16, size),
+    )
+}
+
+// The bytes, which stand at `at` in the packet, start a section, or are refused.
+fn started(form: Form, memory: Memory, bytes: &[u8], at: usize, buffer: &mut [u8]) -> Step
+    requires { ⌜ (length (now bytes) ≤ 188) × (at ≤ 188) × (length (now buffer) ≡ 1024) ⌝ }
+    ensures { λ r. ⌜ outcome r (now (buffer .exit)) ≡ started form memory (now (bytes .entry)) at (now (buffer .entry)) ⌝ }
+{
+    let refusal = start_refusal(form, memory, bytes);
+    if refusal == 0 {
+        let remembered = memory.at_start(form, bytes);
+        return begun(form, remembered, bytes, at, buffer);
+    }
+    let remembered = after_refusal(refusal, memory);
+    Step::answered(refusal, Reader::idle(form, remembered))
+}
+
+impl Reader {
     // The head step on a payload that starts there.
     fn head_from(self, packet: &[u8], start: usize, buffer: &mut [u8]) -> Step
         requires { ⌜ (length (now packet) ≡ 188) × (start < 188) × (length (now buffer) ≡ 1024) ⌝ }
@@ -548,5 +521,36 @@ impl Reader {
             return Step::answered(payload.number(), self);
         };
         self.head_from(packet, start, buffer)
+    }
+}
+
+// The part of the bytes that starts there, of that length; empty where it does not lie within.
+fn part(bytes: &[u8], start: usize, len: usize) -> &[u8]
+    ensures { λ r. ⌜ now r ≡ partOf (now (bytes .entry)) start len ⌝ }
+{
+    if bytes.len() < start {
+        return &bytes[..0];
+    }
+    if bytes.len() - start < len {
+        return &bytes[..0];
+    }
+    let end = start + len;
+    &bytes[start..end]
+}
+
+// A delivered section, as a part of the packet or of the buffer; empty for any other answer, and for a place that does not lie within.
+pub fn section<'a>(packet: &'a [u8], buffer: &'a [u8], answer: u8, place: Place) -> &'a [u8]
+    ensures { λ r. ⌜ now r ≡ sectionOf (now (packet .entry)) (now (buffer .entry)) answer place ⌝ }
+{
+    if answer != Answer::DELIVERED {
+        return &packet[..0];
+    }
+    let start = place.start as usize;
+    let len = place.len as usize;
+    let holder = place.holder;
+    match holder {
+        Holder::Nowhere => &packet[..0],
+        Holder::Packet => part(packet, start, len),
+        Holder::Buffer => part(buffer, start, len),
     }
 }

@@ -1,5 +1,5 @@
 -- `adaptation::field_behind` meets its contract: each way out gives what the tests before it choose. Assumes nothing.
-use mathlib.Core.Path.{ap, _∙_}
+use mathlib.Core.Path.{ap}
 use borrow.Author.Needs.{needs}
 use borrow.Author.Tests.{eq-eqb, ne-eqb, le-leb, lt-leb}
 use Rattle.fields.specs.Choice.{if_then_else_}

@@ -1,7 +1,6 @@
 -- `reader::after_refusal` meets its contract: 10 forgets, and no other. Assumes nothing.
 use borrow.Author.Tests.{eq-eqb, ne-eqb}
 use Rattle.fields.specs.Choice.{if_then_else_}
-use Rattle.reader.specs.Head.{afterRefusal}
 use borrow.Author.Needs.{needs}
 use Rattle.reader.proofs.after_refusal.Statement.{statement}
 use Rattle.reader.proofs.after_refusal.Tie as tie

@@ -1,11 +1,9 @@
 -- `reader::begun` meets its contract: the section is whole, or all bytes are kept. Assumes nothing.
-use mathlib.Core.Path.{_≡_, sym, ap, ap₂, _∙_}
+use mathlib.Core.Path.{sym}
 use lib.Seq.{length-take-le}
 use borrow.Author.Tests.{le-leb, lt-leb}
-use denote.Ref.{now}
 use Rattle.fields.specs.Choice.{if_then_else_}
-use Rattle.fields.proofs.Choices.{test-holds, test-fails}
-use Rattle.reader.specs.Outcome.{outcome, answered}
+use Rattle.reader.specs.Outcome.{answered}
 use Rattle.reader.specs.Head.{begun}
 use borrow.Author.Needs.{needs}
 use Rattle.reader.proofs.begun.Statement.{statement}
@@ -31,7 +29,13 @@ whole-requires c κs = search needs
 
 returns : tie.Need-returns
 unfolding begun if_then_else_
-returns c = simp (← c .before .before .before .before .wanted .ensures, le-leb _ _ (c .before .before .before .if1 .taken), ← c .before .before .in-packet .ensures, ← c .whole .ensures)
+returns c =
+    simp (
+      ← c .before .before .before .before .wanted .ensures,
+      le-leb _ _ (c .before .before .before .if1 .taken),
+      ← c .before .before .in-packet .ensures,
+      ← c .whole .ensures,
+    )
 
 lay-requires : tie.Need-lay-requires
 lay-requires c κs = search needs
@@ -50,7 +54,14 @@ same-length c = search needs
 
 returns-2 : tie.Need-returns-2
 unfolding begun if_then_else_
-returns-2 c = simp (← c .before .before .before .before .before .before .before .wanted .ensures, lt-leb _ _ (c .before .before .before .before .before .before .if1 .left), ← c .before .opened .ensures, ← c .answered .ensures, ← c .before .before .before .before .lay .ensures)
+returns-2 c =
+    simp (
+      ← c .before .before .before .before .before .before .before .wanted .ensures,
+      lt-leb _ _ (c .before .before .before .before .before .before .if1 .left),
+      ← c .before .opened .ensures,
+      ← c .answered .ensures,
+      ← c .before .before .before .before .lay .ensures,
+    )
 
 pub begun-spec : {M : Type 1} → statement M
 begun-spec =

@@ -1,9 +1,6 @@
 -- `reader::checked` meets its contract: a refusal of the header comes first, and behind a header each test in its order. Assumes nothing.
-use Prim.Native.Nat.{ℕ}
-use mathlib.Core.Path.{_≡_, sym, ap, _∙_}
+use mathlib.Core.Path.{sym, ap, _∙_}
 use borrow.Author.Tests.{eq-eqb, ne-eqb}
-use denote.Ref.{now}
-use Rattle.fields.specs.Choice.{if_then_else_}
 use Rattle.fields.proofs.Choices.{test-holds, test-fails}
 use Rattle.packet.specs.Header.{headerSays}
 use Rattle.packet.specs.Payload.{payloadOf, payloadBehind}
@@ -31,9 +28,11 @@ payload-requires c κs = search needs
 returns-2 : tie.Need-returns-2
 unfolding checked payloadOf
 returns-2 c =
-    let is = sym (ap headerSays (c .before .before .before .enum-told .given .1)) ∙ c .before .before .before .before .before .header .ensures in
+    let is = sym (ap headerSays (c .before .before .before .enum-told .given .1))
+    ∙ c .before .before .before .before .before .header .ensures in
     c .payload .ensures ∙ told-of-a-packet _ 0 (payloadBehind _) _ is
-    ∙ sym (told-of-a-packet _ 0 _ _ is ∙ test-holds _ _ _ (eq-eqb _ _ (c .before .before .if1 .left)) ∙ test-holds _ _ _ (c .before .if2 .taken))
+    ∙ sym (told-of-a-packet _ 0 _ _ is ∙ test-holds _ _ _ (eq-eqb _ _ (c .before .before .if1 .left))
+    ∙ test-holds _ _ _ (c .before .if2 .taken))
 
 enum-known-refusal : tie.Need-enum-known-refusal
 enum-known-refusal c = search needs
@@ -41,7 +40,8 @@ enum-known-refusal c = search needs
 returns-3 : tie.Need-returns-3
 unfolding checked
 returns-3 c =
-    let is = sym (ap headerSays (c .before .before .enum-told .given .1)) ∙ c .before .before .before .before .header .ensures in
+    let is = sym (ap headerSays (c .before .before .enum-told .given .1))
+    ∙ c .before .before .before .before .header .ensures in
     sym (told-of-a-packet _ 0 _ _ is ∙ test-holds _ _ _ (eq-eqb _ _ (c .before .if1 .left)) ∙ test-fails _ _ _ (c .if2 .left))
 
 returns-4 : tie.Need-returns-4

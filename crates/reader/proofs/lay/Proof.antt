@@ -1,5 +1,5 @@
 -- `reader::lay` meets its contract: before each turn the first i bytes are laid in. Assumes nothing.
-use Prim.Native.Nat.{ℕ, _+_, _-_, _≤_, _<_}
+use Prim.Native.Nat.{_-_, _≤_}
 use mathlib.Core.Path.{_≡_, refl, sym, ap, _∙_}
 use native.Mathlib.Omega.{arith}
 use lib.ListN.{length, take, length-set}
@@ -52,7 +52,8 @@ returns : tie.Need-returns Inv-loop μ-loop
 returns c =
     let l = c .before in
     let bytes = now (l .before .args .bytes) in
-    l .loop .inv .2 ∙ ap (laid (now (l .before .args .buffer)) (l .before .args .at)) (take-all (l .loop .i) bytes (omega arith))
+    l .loop .inv .2 ∙ ap (laid (now (l .before .args .buffer)) (l .before .args .at))
+    (take-all (l .loop .i) bytes (omega arith))
 
 pub lay-spec : {M : Type 1} → statement M
 lay-spec =

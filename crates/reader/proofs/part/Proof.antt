@@ -1,5 +1,4 @@
 -- `reader::part` meets its contract: each way out gives what the tests before it choose. Assumes nothing.
-use mathlib.Core.Path.{_≡_, sym, ap, _∙_}
 use borrow.Author.Tests.{lt-ltb, le-ltb}
 use denote.Ref.{now}
 use Rattle.fields.specs.Choice.{if_then_else_}
@@ -42,7 +41,8 @@ returns-3 : tie.Need-returns-3
 unfolding partOf if_then_else_
 returns-3 c =
     let a = c .before .before .before .args in
-    simp (le-ltb _ _ (c .before .before .if1 .left), le-ltb _ _ (c .before .if2 .left)) (part-of (now (a .bytes)) (a .start) (a .len))
+    simp (le-ltb _ _ (c .before .before .if1 .left), le-ltb _ _ (c .before .if2 .left))
+    (part-of (now (a .bytes)) (a .start) (a .len))
 
 pub part-spec : {M : Type 1} → statement M
 part-spec =

@@ -1,5 +1,5 @@
 -- `reader::pointer_at` meets its contract: unit start and pointer, cut out of their words. Assumes nothing.
-use mathlib.Core.Path.{_≡_, refl, sym, ap, _∙_}
+use mathlib.Core.Path.{refl}
 use native.Mathlib.Omega.{arith}
 use native.Mathlib.Nat.{div-one}
 use lib.ListN.{length-drop}
@@ -8,7 +8,6 @@ use denote.Ref.{now}
 use Rattle.fields.specs.Choice.{if_then_else_}
 use Rattle.fields.specs.SyntaxTable.{size, behind, width}
 use Rattle.fields.proofs.SyntaxTables.{field-of-word}
-use Rattle.packet.specs.Syntax.{transportPacket}
 use Rattle.packet.proofs.Packets.{header-field}
 use Rattle.reader.specs.Pointer.{pointerField, pointerOf}
 use borrow.Author.Needs.{needs}

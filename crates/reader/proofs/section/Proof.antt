@@ -1,5 +1,4 @@
 -- `reader::section` meets its contract, holder by holder. Assumes nothing.
-use mathlib.Core.Path.{_≡_, sym, ap, _∙_}
 use borrow.Author.Tests.{eq-eqb, ne-eqb}
 use Rattle.fields.specs.Choice.{if_then_else_}
 use Rattle.reader.specs.Delivered.{partHeldBy, sectionOf}
@@ -44,11 +43,14 @@ returns-2 c = simp (eq-eqb _ _ (c .before .before .before .before .before .if1 .
 
 returns-3 : tie.Need-returns-3
 unfolding sectionOf partHeldBy if_then_else_
-returns-3 c = simp (eq-eqb _ _ (c .before .before .before .before .before .if1 .left), c .before .enum-told2 .given .1) (c .part .ensures)
+returns-3 c =
+    simp (eq-eqb _ _ (c .before .before .before .before .before .if1 .left), c .before .enum-told2 .given .1) (c .part .ensures)
 
 returns-4 : tie.Need-returns-4
 unfolding sectionOf partHeldBy if_then_else_
-returns-4 c = simp (eq-eqb _ _ (c .before .before .before .before .before .if1 .left), c .before .enum-told3 .given .1) (c .part2 .ensures)
+returns-4 c =
+    simp (eq-eqb _ _ (c .before .before .before .before .before .if1 .left), c .before .enum-told3 .given .1)
+    (c .part2 .ensures)
 
 pub section-spec : {M : Type 1} → statement M
 section-spec =

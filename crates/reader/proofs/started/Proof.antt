@@ -1,10 +1,8 @@
 -- `reader::started` meets its contract: refused, or begun. Assumes nothing.
-use mathlib.Core.Path.{_≡_, sym, ap, _∙_}
+use mathlib.Core.Path.{sym, _∙_}
 use borrow.Author.Tests.{eq-eqb, ne-eqb}
-use denote.Ref.{now}
 use Rattle.fields.specs.Choice.{if_then_else_}
-use Rattle.fields.proofs.Choices.{test-holds, test-fails}
-use Rattle.reader.specs.Outcome.{outcome, answered}
+use Rattle.reader.specs.Outcome.{answered}
 use Rattle.reader.specs.Head.{started}
 use Rattle.reader.proofs.Starts.{starts}
 use borrow.Author.Needs.{needs}
@@ -18,14 +16,25 @@ at-start-requires : tie.Need-at-start-requires
 at-start-requires c κs = starts _ _ _ (sym (c .before .start-refusal .ensures) ∙ c .if1 .taken) .least
 
 begun-requires : tie.Need-begun-requires
-begun-requires c κs = (starts _ _ _ (sym (c .before .before .before .start-refusal .ensures) ∙ c .before .before .if1 .taken) .three, c .before .before .before .before .before .before .pre .0, c .before .before .before .before .before .before .pre .1, c .before .before .before .before .before .before .pre .2)
+begun-requires c κs = (
+  starts _ _ _ (sym (c .before .before .before .start-refusal .ensures) ∙ c .before .before .if1 .taken) .three,
+  c .before .before .before .before .before .before .pre .0,
+  c .before .before .before .before .before .before .pre .1,
+  c .before .before .before .before .before .before .pre .2,
+)
 
 same-length : tie.Need-same-length
 same-length c = search needs
 
 returns : tie.Need-returns
 unfolding started if_then_else_
-returns c = simp (← c .before .before .before .before .before .before .start-refusal .ensures, eq-eqb _ _ (c .before .before .before .before .before .if1 .taken), ← c .before .before .before .before .at-start .ensures) (c .before .before .begun .ensures)
+returns c =
+    simp (
+      ← c .before .before .before .before .before .before .start-refusal .ensures,
+      eq-eqb _ _ (c .before .before .before .before .before .if1 .taken),
+      ← c .before .before .before .before .at-start .ensures,
+    )
+    (c .before .before .begun .ensures)
 
 after-refusal-requires : tie.Need-after-refusal-requires
 after-refusal-requires c κs = search needs
@@ -38,7 +47,14 @@ answered-requires c κs = search needs
 
 returns-2 : tie.Need-returns-2
 unfolding started if_then_else_
-returns-2 c = simp (← c .before .before .before .before .start-refusal .ensures, ne-eqb _ _ (c .before .before .before .if1 .left), ← c .before .before .after-refusal .ensures, ← c .before .idle .ensures, ← c .answered .ensures)
+returns-2 c =
+    simp (
+      ← c .before .before .before .before .start-refusal .ensures,
+      ne-eqb _ _ (c .before .before .before .if1 .left),
+      ← c .before .before .after-refusal .ensures,
+      ← c .before .idle .ensures,
+      ← c .answered .ensures,
+    )
 
 pub started-spec : {M : Type 1} → statement M
 started-spec =

@@ -1,5 +1,5 @@
 -- `reader::version` meets its contract: eight bytes have a table header. Assumes nothing.
-use mathlib.Core.Path.{_≡_, sym, ap, _∙_}
+use mathlib.Core.Path.{sym, ap, _∙_}
 use native.Mathlib.Omega.{arith}
 use Rattle.psi.specs.Header.{tableHeaderSays, tableFieldsOf}
 use Rattle.psi.proofs.Sections.{table-header-given, table-header-refused}

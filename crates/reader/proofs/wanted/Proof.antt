@@ -1,6 +1,6 @@
 -- `reader::wanted` meets its contract: three bytes have a header. Assumes nothing.
 use Prim.Native.Nat.{_+_}
-use mathlib.Core.Path.{_≡_, sym, ap, _∙_}
+use mathlib.Core.Path.{sym, ap, _∙_}
 use native.Mathlib.Omega.{arith}
 use denote.Ref.{now}
 use Rattle.psi.specs.Header.{headerSays, fieldsOf}
@@ -18,9 +18,14 @@ enum-known-header c = search needs
 add-result : tie.Need-add-result
 unfolding fieldsOf
 add-result c =
-    let known = sym (ap headerSays (c .before .before .header2 .given .1)) ∙ c .before .before .before .before .header .ensures in
+    let known = sym (ap headerSays (c .before .before .header2 .given .1))
+    ∙ c .before .before .before .before .header .ensures in
     let is = header-given _ _ known in
-    omega (arith, section-length-below-4096 (now (c .before .before .before .before .before .before .args .section)) (is .0), ap (λ h. h .«section_length») (is .1))
+    omega (
+      arith,
+      section-length-below-4096 (now (c .before .before .before .before .before .before .args .section)) (is .0),
+      ap (λ h. h .«section_length») (is .1),
+    )
 
 enum-told : tie.Need-enum-told
 enum-told c = search needs
@@ -28,7 +33,8 @@ enum-told c = search needs
 returns : tie.Need-returns
 unfolding fieldsOf
 returns c =
-    let known = sym (ap headerSays (c .before .before .header2 .given .1)) ∙ c .before .before .before .before .header .ensures in
+    let known = sym (ap headerSays (c .before .before .header2 .given .1))
+    ∙ c .before .before .before .before .header .ensures in
     ap (λ h. 3 + h .«section_length») (header-given _ _ known .1)
 
 returns-2 : tie.Need-returns-2

@@ -24,7 +24,9 @@ answered-requires c κs = search needs
 
 returns-2 : tie.Need-returns-2
 unfolding whole if_then_else_
-returns-2 c = simp (← c .before .before .before .verdict .ensures, ne-eqb _ _ (c .before .before .if1 .left), ← c .before .idle2 .ensures) (c .answered .ensures)
+returns-2 c =
+    simp (← c .before .before .before .verdict .ensures, ne-eqb _ _ (c .before .before .if1 .left), ← c .before .idle2 .ensures)
+    (c .answered .ensures)
 
 pub whole-spec : {M : Type 1} → statement M
 whole-spec =

@@ -1,8 +1,7 @@
 -- `packet::Packet::payload` meets its contract: a refusal of the header is the payload's, and behind a header the control decides.
 -- Assumes nothing.
-use mathlib.Core.Path.{_≡_, sym, ap, _∙_}
+use mathlib.Core.Path.{sym, ap, _∙_}
 use borrow.Author.Needs.{needs}
-use denote.Ref.{now}
 use Rattle.packet.specs.Header.{headerSays, fieldsOf}
 use Rattle.packet.specs.Payload.{payloadOf, payloadBehind}
 use Rattle.packet.proofs.Packets.{header-given, told-of-a-packet, refused-as-its-header}

@@ -1,6 +1,4 @@
 -- `reader::Memory::at_start` meets its contract, form by form. Assumes nothing.
-use mathlib.Core.Path.{_≡_, sym, ap, _∙_}
-use Rattle.reader.specs.State.{leastHeld}
 use Rattle.reader.specs.Head.{atStart}
 use borrow.Author.Needs.{needs}
 use Rattle.reader.proofs.Memory.at_start.Statement.{statement}

@@ -1,8 +1,6 @@
 -- `reader::Memory::is_sound` meets its contract, form by form. Assumes nothing.
-use mathlib.Core.Path.{sym, ap}
-use borrow.Author.Tests.{not-false}
 use Rattle.fields.specs.Choice.{if_then_else_}
-use Rattle.reader.specs.State.{mayRemember, soundMemory}
+use Rattle.reader.specs.State.{soundMemory}
 use borrow.Author.Needs.{needs}
 use Rattle.reader.proofs.Memory.is_sound.Statement.{statement}
 use Rattle.reader.proofs.Memory.is_sound.Tie as tie

@@ -1,7 +1,5 @@
 -- `reader::Memory::repeats` meets its contract, form by form. Assumes nothing.
-use mathlib.Core.Path.{_≡_, sym, ap, _∙_}
 use Rattle.fields.specs.Choice.{if_then_else_}
-use Rattle.reader.specs.State.{leastHeld}
 use Rattle.reader.specs.Head.{repeats}
 use borrow.Author.Needs.{needs}
 use Rattle.reader.proofs.Memory.repeats.Statement.{statement}

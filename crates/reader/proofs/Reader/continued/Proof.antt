@@ -1,8 +1,7 @@
 -- `reader::Reader::continued` meets its contract: nothing is open, too few bytes came, or the section is whole. Assumes nothing.
-use Prim.Native.Nat.{ℕ, _-_, _≤_}
-use mathlib.Core.Path.{_≡_, sym, ap, ap₂, _∙_}
+use Prim.Native.Nat.{_-_}
+use mathlib.Core.Path.{sym, ap, ap₂, _∙_}
 use native.Mathlib.Omega.{arith}
-use lib.ListN.{length, take}
 use lib.Seq.{length-take-le}
 use borrow.Author.Tests.{not-true, not-false}
 use denote.Ref.{now}
@@ -33,12 +32,14 @@ cast-wanted c = search needs
 
 sub-missing : tie.Need-sub-missing
 sub-missing c =
-    let w = open-sound _ (c .before .before .before .before .before .before .before .pre .1) (not-false _ (c .before .before .if1 .left)) in
+    let w = open-sound _ (c .before .before .before .before .before .before .before .pre .1)
+    (not-false _ (c .before .before .if1 .left)) in
     omega arith
 
 lay-requires : tie.Need-lay-requires
 lay-requires c κs =
-    let w = open-sound _ (c .before .before .before .before .before .before .before .before .before .pre .1) (not-false _ (c .before .before .before .before .if1 .left)) in
+    let w = open-sound _ (c .before .before .before .before .before .before .before .before .before .pre .1)
+    (not-false _ (c .before .before .before .before .if1 .left)) in
     omega arith
 
 add-more : tie.Need-add-more
@@ -58,10 +59,13 @@ same-length c = search needs
 
 returns-2 : tie.Need-returns-2
 returns-2 c =
-    let a = c .before .before .before .before .before .before .before .before .before .before .before .before .before .before .args in
+    let a = c .before .before .before .before .before .before .before .before .before .before .before .before .before .before
+    .args in
     let isOpen = not-false _ (c .before .before .before .before .before .before .before .before .before .if1 .left) in
-    ap₂ outcome (c .answered2 .ensures ∙ ap (answered 1) (c .before .opened .ensures)) (c .before .before .before .before .lay .ensures)
-    ∙ sym (continued-short (a .self) (now (a .bytes)) (now (a .buffer)) isOpen (c .before .before .before .before .before .before .if2 .taken))
+    ap₂ outcome (c .answered2 .ensures ∙ ap (answered 1) (c .before .opened .ensures))
+    (c .before .before .before .before .lay .ensures)
+    ∙ sym (continued-short (a .self) (now (a .bytes)) (now (a .buffer)) isOpen
+    (c .before .before .before .before .before .before .if2 .taken))
 
 slice-aggregate-lay : tie.Need-slice-aggregate-lay
 slice-aggregate-lay c = sym (length-take-le _ _ (c .before .before .if2 .left))
@@ -69,7 +73,8 @@ slice-aggregate-lay c = sym (length-take-le _ _ (c .before .before .if2 .left))
 lay-requires-2 : tie.Need-lay-requires-2
 lay-requires-2 c κs =
     let a = c .before .before .before .before .before .before .before .before .before .before .args in
-    let w = open-sound _ (c .before .before .before .before .before .before .before .before .before .before .pre .1) (not-false _ (c .before .before .before .before .before .if1 .left)) in
+    let w = open-sound _ (c .before .before .before .before .before .before .before .before .before .before .pre .1)
+    (not-false _ (c .before .before .before .before .before .if1 .left)) in
     omega (arith, length-take-le (a .self .wanted - a .self .held) (now (a .bytes)) (c .before .before .if2 .left))
 
 in-buffer-requires : tie.Need-in-buffer-requires
@@ -77,12 +82,16 @@ in-buffer-requires c κs = search needs
 
 slice-reshare-prefix-whole : tie.Need-slice-reshare-prefix-whole
 slice-reshare-prefix-whole c =
-    let w = open-sound _ (c .before .before .before .before .before .before .before .before .before .before .before .before .before .before .pre .1) (not-false _ (c .before .before .before .before .before .before .before .before .before .if1 .left)) in
+    let w = open-sound _
+    (c .before .before .before .before .before .before .before .before .before .before .before .before .before .before .pre .1)
+    (not-false _ (c .before .before .before .before .before .before .before .before .before .if1 .left)) in
     omega arith
 
 slice-aggregate-whole : tie.Need-slice-aggregate-whole
 slice-aggregate-whole c =
-    let w = open-sound _ (c .before .before .before .before .before .before .before .before .before .before .before .before .before .before .before .pre .1) (not-false _ (c .before .before .before .before .before .before .before .before .before .before .if1 .left)) in
+    let w = open-sound _
+    (c .before .before .before .before .before .before .before .before .before .before .before .before .before .before .before
+    .pre .1) (not-false _ (c .before .before .before .before .before .before .before .before .before .before .if1 .left)) in
     sym (length-take-le _ _ (omega arith))
 
 whole-requires : tie.Need-whole-requires
@@ -93,12 +102,17 @@ same-length-2 c = search needs
 
 returns-3 : tie.Need-returns-3
 returns-3 c =
-    let a = c .before .before .before .before .before .before .before .before .before .before .before .before .before .before .before .before .args in
-    let isOpen = not-false _ (c .before .before .before .before .before .before .before .before .before .before .before .if1 .left) in
-    let w = open-sound (a .self) (c .before .before .before .before .before .before .before .before .before .before .before .before .before .before .before .before .pre .1) isOpen in
+    let a = c .before .before .before .before .before .before .before .before .before .before .before .before .before .before
+    .before .before .args in
+    let isOpen = not-false _
+    (c .before .before .before .before .before .before .before .before .before .before .before .if1 .left) in
+    let w = open-sound (a .self)
+    (c .before .before .before .before .before .before .before .before .before .before .before .before .before .before .before
+    .before .pre .1) isOpen in
     ap (λ step. outcome step (c .before .before .before .before .before .lay2 .last .0)) (c .whole .ensures)
     ∙ rw (c .before .before .before .before .before .lay2 .ensures, c .before .before .in-buffer .ensures)
-    (sym (continued-whole (a .self) (now (a .bytes)) (now (a .buffer)) isOpen (w .below) (c .before .before .before .before .before .before .before .before .if2 .left)))
+    (sym (continued-whole (a .self) (now (a .bytes)) (now (a .buffer)) isOpen (w .below)
+    (c .before .before .before .before .before .before .before .before .if2 .left)))
 
 pub continued-spec : {M : Type 1} → statement M
 continued-spec =

@@ -1,5 +1,4 @@
 -- `reader::Reader::counts_are_sound` meets its contract: each way out gives what the tests before it choose. Assumes nothing.
-use mathlib.Core.Path.{sym, _∙_}
 use borrow.Author.Tests.{le-leb, lt-leb, lt-ltb, le-ltb, eq-eqb, ne-eqb}
 use Rattle.fields.specs.Choice.{if_then_else_}
 use Rattle.reader.specs.State.{soundCounts}
@@ -28,8 +27,12 @@ returns-2 : tie.Need-returns-2
 unfolding soundCounts if_then_else_
 returns-2 c =
     let least = c .before .before .before .before in
-    simp
-    (least .before .if1 .taken, ← least .least-held .ensures, le-leb _ _ (c .before .before .if2 .taken), le-ltb _ _ (c .if3 .left))
+    simp (
+      least .before .if1 .taken,
+      ← least .least-held .ensures,
+      le-leb _ _ (c .before .before .if2 .taken),
+      le-ltb _ _ (c .if3 .left),
+    )
 
 returns-3 : tie.Need-returns-3
 unfolding soundCounts if_then_else_

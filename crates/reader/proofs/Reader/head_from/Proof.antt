@@ -1,9 +1,9 @@
 -- `reader::Reader::head_from` meets its contract, by what the pointer says. Assumes nothing.
 use Prim.Native.Nat.{ℕ, _+_}
-use mathlib.Core.Path.{_≡_, sym, ap, _∙_}
+use mathlib.Core.Path.{sym, ap, _∙_}
 use mathlib.Core.List.{List}
 use native.Mathlib.Omega.{arith}
-use lib.ListN.{length, length-drop}
+use lib.ListN.{length-drop}
 use denote.Ref.{now}
 use Rattle.reader.specs.Outcome.{outcome, answered}
 use Rattle.reader.specs.Head.{started}
@@ -31,26 +31,47 @@ add-at c = search needs
 
 add-at-2 : tie.Need-add-at-2
 add-at-2 c =
-    let points = points-to _ _ _ (sym (c .before .before .before .before .pointer-at .ensures) ∙ c .before .before .to .given .1) in
-    omega (arith, target-within _ _ _ points (c .before .before .before .before .before .before .before .pre .0) (c .before .before .before .before .before .before .before .pre .1))
+    let points = points-to _ _ _ (sym (c .before .before .before .before .pointer-at .ensures)
+    ∙ c .before .before .to .given .1) in
+    omega (
+      arith,
+      target-within _ _ _ points (c .before .before .before .before .before .before .before .pre .0)
+          (c .before .before .before .before .before .before .before .pre .1),
+    )
 
 sub-started : tie.Need-sub-started
 sub-started c =
-    let points = points-to _ _ _ (sym (c .before .before .before .before .pointer-at .ensures) ∙ c .before .before .to .given .1) in
-    omega (arith, target-within _ _ _ points (c .before .before .before .before .before .before .before .pre .0) (c .before .before .before .before .before .before .before .pre .1))
+    let points = points-to _ _ _ (sym (c .before .before .before .before .pointer-at .ensures)
+    ∙ c .before .before .to .given .1) in
+    omega (
+      arith,
+      target-within _ _ _ points (c .before .before .before .before .before .before .before .pre .0)
+          (c .before .before .before .before .before .before .before .pre .1),
+    )
 
 part-started-start : tie.Need-part-started-start
 part-started-start c =
-    let points = points-to _ _ _ (sym (c .before .before .before .before .pointer-at .ensures) ∙ c .before .before .to .given .1) in
-    omega (arith, target-within _ _ _ points (c .before .before .before .before .before .before .before .pre .0) (c .before .before .before .before .before .before .before .pre .1))
+    let points = points-to _ _ _ (sym (c .before .before .before .before .pointer-at .ensures)
+    ∙ c .before .before .to .given .1) in
+    omega (
+      arith,
+      target-within _ _ _ points (c .before .before .before .before .before .before .before .pre .0)
+          (c .before .before .before .before .before .before .before .pre .1),
+    )
 
 part-started-end : tie.Need-part-started-end
 part-started-end c = search needs
 
 started-requires : tie.Need-started-requires
 started-requires c κs =
-    let points = points-to _ _ _ (sym (c .before .before .before .before .before .before .pointer-at .ensures) ∙ c .before .before .before .before .to .given .1) in
-    (rw part-to-end (simp length-drop (omega arith)), target-within _ _ _ points (c .before .before .before .before .before .before .before .before .before .pre .0) (c .before .before .before .before .before .before .before .before .before .pre .1), c .before .before .before .before .before .before .before .before .before .pre .2)
+    let points = points-to _ _ _ (sym (c .before .before .before .before .before .before .pointer-at .ensures)
+    ∙ c .before .before .before .before .to .given .1) in (
+      rw part-to-end (simp length-drop (omega arith)),
+      target-within _ _ _ points
+          (c .before .before .before .before .before .before .before .before .before .pre .0)
+          (c .before .before .before .before .before .before .before .before .before .pre .1),
+      c .before .before .before .before .before .before .before .before .before .pre .2,
+    )
 
 enum-told-2 : tie.Need-enum-told-2
 enum-told-2 c = search needs
@@ -75,15 +96,19 @@ returns-2 : tie.Need-returns-2
 returns-2 c =
     let a = c .before .before .before .before .before .before .before .before .before .before .before .before .args in
     let to = c .before .before .before .before .before .before .before .to .given .0 .0 in
-    let points = points-to _ _ to (sym (c .before .before .before .before .before .before .before .before .before .pointer-at .ensures) ∙ c .before .before .before .before .before .before .before .to .given .1) in
+    let points = points-to _ _ to
+    (sym (c .before .before .before .before .before .before .before .before .before .pointer-at .ensures)
+    ∙ c .before .before .before .before .before .before .before .to .given .1) in
     c .before .before .started .ensures
-    ∙ ap (λ (bytes : List ℕ). started (a .self .form) (a .self .memory) bytes (a .start + 1 + to) (now (a .buffer))) (part-to-end (now (a .packet)) (a .start + 1 + to))
+    ∙ ap (λ (bytes : List ℕ). started (a .self .form) (a .self .memory) bytes (a .start + 1 + to) (now (a .buffer)))
+    (part-to-end (now (a .packet)) (a .start + 1 + to))
     ∙ sym (head-at (a .self) (now (a .packet)) (a .start) (now (a .buffer)) to points)
 
 returns-3 : tie.Need-returns-3
 returns-3 c =
     let a = c .before .before .before .before .before .before .before .args in
-    let beyond = points-beyond _ _ (sym (c .before .before .before .before .pointer-at .ensures) ∙ c .before .before .enum-told2 .given .1) in
+    let beyond = points-beyond _ _ (sym (c .before .before .before .before .pointer-at .ensures)
+    ∙ c .before .before .enum-told2 .given .1) in
     ap (λ step. outcome step (now (a .buffer))) (c .answered2 .ensures ∙ ap (answered 9) (c .before .fresh .ensures))
     ∙ sym (head-beyond (a .self) (now (a .packet)) (a .start) (now (a .buffer)) (beyond .0) (beyond .1))
 

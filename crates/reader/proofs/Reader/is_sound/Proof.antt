@@ -1,5 +1,4 @@
 -- `reader::Reader::is_sound` meets its contract: memory, then counts. Assumes nothing.
-use mathlib.Core.Path.{sym, _∙_}
 use Rattle.fields.specs.Choice.{if_then_else_}
 use Rattle.reader.specs.State.{sound}
 use borrow.Author.Needs.{needs}

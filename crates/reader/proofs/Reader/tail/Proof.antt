@@ -1,13 +1,9 @@
 -- `reader::Reader::tail` meets its contract: the checks, and then the tail from the payload. Assumes nothing.
-use Prim.Native.Nat.{ℕ}
-use mathlib.Core.Path.{_≡_, sym, ap, _∙_}
-use denote.Ref.{now}
-use Rattle.answers.specs.Says.{Says}
-use Rattle.packet.specs.Payload.{payloadSays}
-use Rattle.reader.specs.Outcome.{outcome, answered}
-use Rattle.reader.specs.Tail.{tailOf}
-use Rattle.reader.proofs.Checking.{goes-on, stays, passed}
+use mathlib.Core.Path.{sym, _∙_}
 use borrow.Author.Needs.{needs}
+use denote.Ref.{now}
+use Rattle.reader.specs.Tail.{tailOf}
+use Rattle.reader.proofs.Checking.{refused-step, step-from, place-passed}
 use Rattle.reader.proofs.Reader.tail.Statement.{statement}
 use Rattle.reader.proofs.Reader.tail.Tie as tie
 
@@ -33,16 +29,18 @@ returns : tie.Need-returns
 unfolding tailOf
 returns c =
     let a = c .before .before .before .before .before .before .before .before .args in
-    let known = c .before .before .enum-told .given .1 in
-    let found = sym (ap payloadSays known) ∙ c .before .before .before .before .checked .ensures in
-    let number = c .before .number .ensures ∙ ap (λ payload. payloadSays payload .number) known in
-    ap (λ step. outcome step (now (a .buffer))) (c .answered .ensures ∙ ap (λ n. answered n (a .self)) number)
-    ∙ sym (stays (a .self) (now (a .packet)) (now (a .buffer)) _ (c .before .before .enum-told .given .0 .0) (rw (c .before .before .before .before .before .is-sound .ensures) at found))
+    refused-step (a .self) (now (a .packet)) (now (a .buffer)) _ (c .before .before .before .before .before .is-sound .ensures)
+    _ (c .before .before .before .before .checked .ensures)
+    _ (c .before .before .enum-told .given .0 .0) (c .before .before .enum-told .given .1)
+    _ (c .before .number .ensures) _ (c .answered .ensures)
 
 tail-from-requires : tie.Need-tail-from-requires
 tail-from-requires c κs =
-    let found = sym (ap payloadSays (c .before .before .payload .given .1)) ∙ c .before .before .before .before .checked .ensures in
-    let p = passed _ _ _ _ (rw (c .before .before .before .before .before .is-sound .ensures) at found) in
+    let a = c .before .before .before .before .before .before .before .before .args in
+    let p = place-passed (a .self) (now (a .packet)) (now (a .buffer)) _
+    (c .before .before .before .before .before .is-sound .ensures)
+    _ (c .before .before .before .before .checked .ensures)
+    _ (c .before .before .payload .given .1) in
     (p .sized, p .within, p .lent, p .soundState)
 
 same-length : tie.Need-same-length
@@ -52,8 +50,11 @@ returns-2 : tie.Need-returns-2
 unfolding tailOf
 returns-2 c =
     let a = c .before .before .before .before .before .before .before .before .before .before .before .args in
-    let found = sym (ap payloadSays (c .before .before .before .before .before .payload .given .1)) ∙ c .before .before .before .before .before .before .before .checked .ensures in
-    c .before .before .tail-from .ensures ∙ sym (goes-on (a .self) (now (a .packet)) (now (a .buffer)) _ _ (rw (c .before .before .before .before .before .before .before .before .is-sound .ensures) at found))
+    let goes = step-from (a .self) (now (a .packet)) (now (a .buffer)) _
+    (c .before .before .before .before .before .before .before .before .is-sound .ensures)
+    _ (c .before .before .before .before .before .before .before .checked .ensures)
+    _ _ (c .before .before .before .before .before .payload .given .1) in
+    c .before .before .tail-from .ensures ∙ sym goes
 
 pub tail-spec : {M : Type 1} → statement M
 tail-spec =

@@ -1,14 +1,10 @@
 -- `reader::Reader::tail_from` meets its contract, by what the pointer says. Assumes nothing.
-use Prim.Native.Nat.{ℕ, _+_, _-_, _≤_, _<_}
-use mathlib.Core.Path.{_≡_, sym, ap, _∙_}
+use Prim.Native.Nat.{ℕ, _+_}
+use mathlib.Core.Path.{sym, ap, _∙_}
 use mathlib.Core.List.{List}
 use native.Mathlib.Omega.{arith}
-use lib.ListN.{length, take, drop, length-drop}
-use lib.Seq.{take-all, drop-drop}
 use denote.Ref.{now}
-use Rattle.reader.specs.State.{noMemory, idle}
 use Rattle.reader.specs.Outcome.{outcome, answered}
-use Rattle.reader.specs.Pointer.{pointer}
 use Rattle.reader.specs.Tail.{continued}
 use Rattle.reader.proofs.Parts.{part-to-end, part-of}
 use Rattle.reader.proofs.Pointers.{no-unit-start, points-to, points-beyond, end-within}
@@ -44,7 +40,8 @@ answered-requires c κs = search needs
 returns : tie.Need-returns
 returns c =
     let a = c .before .before .before .before .before .before .before .before .args in
-    let points = points-to _ _ _ (sym (c .before .before .before .before .before .pointer-at .ensures) ∙ c .before .before .before .to .given .1) in
+    let points = points-to _ _ _ (sym (c .before .before .before .before .before .pointer-at .ensures)
+    ∙ c .before .before .before .to .given .1) in
     ap (λ step. outcome step (now (a .buffer))) (c .answered .ensures)
     ∙ sym (tail-at-0 (a .self) (now (a .packet)) (a .start) (now (a .buffer)) (rw (c .before .if1 .taken) at points))
 
@@ -53,7 +50,8 @@ add-from c = search needs
 
 add-end : tie.Need-add-end
 add-end c =
-    let points = points-to _ _ _ (sym (c .before .before .before .before .pointer-at .ensures) ∙ c .before .before .to .given .1) in
+    let points = points-to _ _ _ (sym (c .before .before .before .before .pointer-at .ensures)
+    ∙ c .before .before .to .given .1) in
     omega (arith, end-within _ _ _ points (c .before .before .before .before .before .before .before .pre .0) (c .if1 .left))
 
 sub-continued-2 : tie.Need-sub-continued-2
@@ -64,7 +62,8 @@ part-continued-start-2 c = search needs
 
 part-continued-end-2 : tie.Need-part-continued-end-2
 part-continued-end-2 c =
-    let points = points-to _ _ _ (sym (c .before .before .before .before .pointer-at .ensures) ∙ c .before .before .to .given .1) in
+    let points = points-to _ _ _ (sym (c .before .before .before .before .pointer-at .ensures)
+    ∙ c .before .before .to .given .1) in
     omega (arith, end-within _ _ _ points (c .before .before .before .before .before .before .before .pre .0) (c .if1 .left))
 
 continued-requires-2 : tie.Need-continued-requires-2
@@ -85,7 +84,8 @@ same-length c = search needs
 returns-2 : tie.Need-returns-2
 returns-2 c =
     let a = c .before .before .before .before .before .before .before .before .before .before .args in
-    let unit = no-unit-start _ _ (sym (c .before .before .before .before .before .before .before .pointer-at .ensures) ∙ c .before .before .before .before .before .enum-told .given .1) in
+    let unit = no-unit-start _ _ (sym (c .before .before .before .before .before .before .before .pointer-at .ensures)
+    ∙ c .before .before .before .before .before .enum-told .given .1) in
     c .before .before .continued .ensures
     ∙ ap (λ (bytes : List ℕ). continued (a .self) bytes (now (a .buffer))) (part-to-end (now (a .packet)) (a .start))
     ∙ sym (tail-without-unit-start (a .self) (now (a .packet)) (a .start) (now (a .buffer)) unit)
@@ -96,15 +96,19 @@ same-length-2 c = search needs
 returns-3 : tie.Need-returns-3
 returns-3 c =
     let a = c .before .before .before .before .before .before .before .before .before .before .before .before .args in
-    let points = points-to _ _ _ (sym (c .before .before .before .before .before .before .before .before .before .pointer-at .ensures) ∙ c .before .before .before .before .before .before .before .to .given .1) in
+    let points = points-to _ _ _
+    (sym (c .before .before .before .before .before .before .before .before .before .pointer-at .ensures)
+    ∙ c .before .before .before .before .before .before .before .to .given .1) in
     c .before .before .continued2 .ensures
     ∙ ap (λ (bytes : List ℕ). continued (a .self) bytes (now (a .buffer))) (part-of (now (a .packet)) (a .start + 1) _)
-    ∙ sym (tail-up-to (a .self) (now (a .packet)) (a .start) (now (a .buffer)) _ points (c .before .before .before .before .before .if1 .left))
+    ∙ sym (tail-up-to (a .self) (now (a .packet)) (a .start) (now (a .buffer)) _ points
+    (c .before .before .before .before .before .if1 .left))
 
 returns-4 : tie.Need-returns-4
 returns-4 c =
     let a = c .before .before .before .before .before .before .before .args in
-    let beyond = points-beyond _ _ (sym (c .before .before .before .before .pointer-at .ensures) ∙ c .before .before .enum-told2 .given .1) in
+    let beyond = points-beyond _ _ (sym (c .before .before .before .before .pointer-at .ensures)
+    ∙ c .before .before .enum-told2 .given .1) in
     ap (λ step. outcome step (now (a .buffer))) (c .answered2 .ensures ∙ ap (answered 9) (c .before .fresh .ensures))
     ∙ sym (tail-beyond (a .self) (now (a .packet)) (a .start) (now (a .buffer)) (beyond .0) (beyond .1))
 
