@@ -3,3 +3,4 @@ pub mod Alike
 pub mod BackInStep
 pub mod WhatIsDelivered
 pub mod ForOperators
+pub mod WhatIsRead
