@@ -41,21 +41,18 @@ enum {
   JAMBPEPPER_DELIVERED = 2,
   /* refusals: in a refused answer all other numbers are 0, save where a line
      says otherwise */
-  JAMBPEPPER_PACKET_SIZE = 3,    /* packet not 188 bytes */
-  JAMBPEPPER_NO_SYNC_BYTE = 4,   /* no 0x47 */
-  JAMBPEPPER_BUFFER_SIZE = 5,    /* buffer not 1,024 bytes */
-  JAMBPEPPER_NO_PAYLOAD = 6,     /* adaptation field control gives no payload */
-  JAMBPEPPER_PAYLOAD_EMPTY = 7,  /* payload start is 188 */
-  JAMBPEPPER_PAYLOAD_BEYOND = 8, /* payload start above 188 */
-  JAMBPEPPER_POINTER_BEYOND_REST =
-      9,                         /* pointer beyond the rest of the payload */
-  JAMBPEPPER_UNDER_3_BYTES = 10, /* under 3 bytes of a section */
-  JAMBPEPPER_SYNTAX_INDICATOR =
-      11,                        /* syntax indicator not as the form needs it */
-  JAMBPEPPER_UNDER_8_BYTES = 12, /* under 8 bytes of a section */
-  JAMBPEPPER_LENGTH_ABOVE_1021 = 13, /* section_length above 1,021 */
-  JAMBPEPPER_VERSION_REPEATED =
-      14, /* ONCE: version equal to the remembered one */
+  JAMBPEPPER_PACKET_SIZE = 3,              /* packet not 188 bytes */
+  JAMBPEPPER_NO_SYNC_BYTE = 4,             /* no 0x47 */
+  JAMBPEPPER_BUFFER_SIZE = 5,              /* buffer not 1,024 bytes */
+  JAMBPEPPER_NO_PAYLOAD = 6,               /* adaptation field control gives no payload */
+  JAMBPEPPER_PAYLOAD_EMPTY = 7,            /* payload start is 188 */
+  JAMBPEPPER_PAYLOAD_BEYOND = 8,           /* payload start above 188 */
+  JAMBPEPPER_POINTER_BEYOND_REST = 9,      /* pointer beyond the rest of the payload */
+  JAMBPEPPER_UNDER_3_BYTES = 10,           /* under 3 bytes of a section */
+  JAMBPEPPER_SYNTAX_INDICATOR = 11,        /* syntax indicator not as the form needs it */
+  JAMBPEPPER_UNDER_8_BYTES = 12,           /* under 8 bytes of a section */
+  JAMBPEPPER_LENGTH_ABOVE_1021 = 13,       /* section_length above 1,021 */
+  JAMBPEPPER_VERSION_REPEATED = 14,        /* ONCE: version equal to the remembered one */
   JAMBPEPPER_NO_SECTION_OPEN = 15,         /* bytes that continue no section */
   JAMBPEPPER_SECTION_UNDER_12 = 16,        /* whole section under 12 bytes */
   JAMBPEPPER_CRC_NOT_ZERO = 17,            /* CRC remainder not zero */
@@ -63,12 +60,11 @@ enum {
   JAMBPEPPER_ADAPTATION_FIELD_LENGTH = 19, /* adaptation field length wrong */
   JAMBPEPPER_FLAG_CLEAR = 20,              /* optional part's flag clear */
   JAMBPEPPER_FIELD_ENDS_BEFORE = 21,       /* field ends before the part does */
-  JAMBPEPPER_PMT_TOO_SHORT =
-      22, /* PMT body too short; needed and actual are told */
-  JAMBPEPPER_WALK_AT_END = 23,          /* walk at its end */
-  JAMBPEPPER_NO_ENTRY_FITS = 24,        /* no entry fits here; the walk ends */
-  JAMBPEPPER_STATE_NOT_SOUND = 25,      /* state not sound */
-  JAMBPEPPER_POSITION_ABOVE_LENGTH = 26 /* position above the body's length */
+  JAMBPEPPER_PMT_TOO_SHORT = 22,           /* PMT body too short; needed and actual are told */
+  JAMBPEPPER_WALK_AT_END = 23,             /* walk at its end */
+  JAMBPEPPER_NO_ENTRY_FITS = 24,           /* no entry fits here; the walk ends */
+  JAMBPEPPER_STATE_NOT_SOUND = 25,         /* state not sound */
+  JAMBPEPPER_POSITION_ABOVE_LENGTH = 26    /* position above the body's length */
 };
 
 /* ---- sizes */
@@ -99,8 +95,7 @@ typedef struct {
 
 JambpepperHeader jambpepper_header(const uint8_t *packet, size_t packet_length);
 
-JambpepperPayload jambpepper_payload(const uint8_t *packet,
-                                     size_t packet_length);
+JambpepperPayload jambpepper_payload(const uint8_t *packet, size_t packet_length);
 
 /* 1 where counter follows other, else 0; 0 where one of them is above 15 */
 uint8_t jambpepper_counter_follows(uint8_t counter, uint8_t other);
@@ -138,19 +133,16 @@ typedef struct {
   uint8_t answer;
 } JambpepperPart;
 
-JambpepperAdaptationField jambpepper_adaptation_field(const uint8_t *packet,
-                                                      size_t packet_length);
+JambpepperAdaptationField jambpepper_adaptation_field(const uint8_t *packet, size_t packet_length);
 
 JambpepperClock jambpepper_pcr(const uint8_t *packet, size_t packet_length);
 
 JambpepperClock jambpepper_opcr(const uint8_t *packet, size_t packet_length);
 
-JambpepperSpliceCountdown jambpepper_splice_countdown(const uint8_t *packet,
-                                                      size_t packet_length);
+JambpepperSpliceCountdown jambpepper_splice_countdown(const uint8_t *packet, size_t packet_length);
 
 /* where the private data lies in the packet; answers 0, 3, 4, 18 to 21 */
-JambpepperPart jambpepper_transport_private_data(const uint8_t *packet,
-                                                 size_t packet_length);
+JambpepperPart jambpepper_transport_private_data(const uint8_t *packet, size_t packet_length);
 
 /* ---- sections */
 
@@ -171,11 +163,9 @@ typedef struct {
   uint8_t answer; /* 0, 12 */
 } JambpepperTableHeader;
 
-JambpepperSectionHeader jambpepper_section_header(const uint8_t *section,
-                                                  size_t section_length);
+JambpepperSectionHeader jambpepper_section_header(const uint8_t *section, size_t section_length);
 
-JambpepperTableHeader jambpepper_table_header(const uint8_t *section,
-                                              size_t section_length);
+JambpepperTableHeader jambpepper_table_header(const uint8_t *section, size_t section_length);
 
 /* where the body lies in the section; answers 0, 16 */
 JambpepperPart jambpepper_body(const uint8_t *section, size_t section_length);
@@ -213,13 +203,11 @@ typedef struct {
   uint8_t answer; /* 0, 23, 24, 26 */
 } JambpepperStream;
 
-JambpepperProgram jambpepper_program_at(const uint8_t *body, size_t body_length,
-                                        size_t position);
+JambpepperProgram jambpepper_program_at(const uint8_t *body, size_t body_length, size_t position);
 
 JambpepperPmt jambpepper_pmt_start(const uint8_t *body, size_t body_length);
 
-JambpepperStream jambpepper_stream_at(const uint8_t *body, size_t body_length,
-                                      size_t position);
+JambpepperStream jambpepper_stream_at(const uint8_t *body, size_t body_length, size_t position);
 
 /* ---- gathering: one reader a PID, each packet worked tail, then head */
 
@@ -240,11 +228,7 @@ typedef struct {
   uint16_t wanted; /* the bytes that it has, else 0 */
 } JambpepperReader;
 
-enum {
-  JAMBPEPPER_NOWHERE = 0,
-  JAMBPEPPER_IN_PACKET = 1,
-  JAMBPEPPER_IN_BUFFER = 2
-};
+enum { JAMBPEPPER_NOWHERE = 0, JAMBPEPPER_IN_PACKET = 1, JAMBPEPPER_IN_BUFFER = 2 };
 
 /* where a delivered section lies */
 typedef struct {
@@ -266,14 +250,12 @@ JambpepperReader jambpepper_fresh(uint8_t form);
 uint8_t jambpepper_is_sound(JambpepperReader reader);
 
 /* what the packet holds of the section that is open */
-JambpepperStep jambpepper_tail(JambpepperReader reader, const uint8_t *packet,
-                               size_t packet_length, uint8_t *buffer,
-                               size_t buffer_length);
+JambpepperStep jambpepper_tail(JambpepperReader reader, const uint8_t *packet, size_t packet_length,
+                               uint8_t *buffer, size_t buffer_length);
 
 /* the section that starts in the packet */
-JambpepperStep jambpepper_head(JambpepperReader reader, const uint8_t *packet,
-                               size_t packet_length, uint8_t *buffer,
-                               size_t buffer_length);
+JambpepperStep jambpepper_head(JambpepperReader reader, const uint8_t *packet, size_t packet_length,
+                               uint8_t *buffer, size_t buffer_length);
 
 /*
  * The place, where the answer is 2 and it lies within the bytes lent; else
@@ -281,12 +263,11 @@ JambpepperStep jambpepper_head(JambpepperReader reader, const uint8_t *packet,
  * the step was lent.)
  */
 JambpepperPlace jambpepper_section(const uint8_t *packet, size_t packet_length,
-                                   const uint8_t *buffer, size_t buffer_length,
-                                   uint8_t answer, JambpepperPlace place);
+                                   const uint8_t *buffer, size_t buffer_length, uint8_t answer,
+                                   JambpepperPlace place);
 
 /* The first byte of a place that jambpepper_section gave for these bytes. */
-static inline const uint8_t *jambpepper_section_bytes(JambpepperPlace place,
-                                                      const uint8_t *packet,
+static inline const uint8_t *jambpepper_section_bytes(JambpepperPlace place, const uint8_t *packet,
                                                       const uint8_t *buffer) {
   return (place.holder == JAMBPEPPER_IN_BUFFER ? buffer : packet) + place.start;
 }

@@ -13,8 +13,8 @@ static void finish(uint8_t *section) {
   write_section(section, PSI_HEADER_SIZE + psi_get_length(section));
 }
 
-static void write_pat_section(const struct pat *asked, size_t from, size_t to,
-                              size_t number, size_t last) {
+static void write_pat_section(const struct pat *asked, size_t from, size_t to, size_t number,
+                              size_t last) {
   PSI_DECLARE(section);
   pat_init(section);
   pat_set_length(section, (to - from) * PAT_PROGRAM_SIZE);
@@ -67,8 +67,7 @@ static void write_pmt(const struct pmt *asked) {
     pmtn_set_pid(entry, stream.pid);
     pmtn_set_desclength(entry, stream.info.size);
     if (stream.info.size)
-      memcpy(pmtn_get_descs(entry) + DESCS_HEADER_SIZE, stream.info.bytes,
-             stream.info.size);
+      memcpy(pmtn_get_descs(entry) + DESCS_HEADER_SIZE, stream.info.bytes, stream.info.size);
   }
   uint8_t *end = pmt_get_es(section, count);
   pmt_set_length(section, end - section - PMT_HEADER_SIZE);

@@ -11,8 +11,7 @@
 #include <dvbpsi/pmt.h>
 #include <dvbpsi/psi.h>
 
-static void say(dvbpsi_t *handle, const dvbpsi_msg_level_t level,
-                const char *message) {
+static void say(dvbpsi_t *handle, const dvbpsi_msg_level_t level, const char *message) {
   (void)handle;
   (void)level;
   fprintf(stderr, "%s\n", message);
@@ -33,8 +32,7 @@ static void write_pat(dvbpsi_t *handle, const struct pat *asked) {
     dvbpsi_pat_program_add(pat, program.number, program.pid);
   }
   write_pat_asked(asked);
-  write_sections(
-      dvbpsi_pat_sections_generate(handle, pat, asked->in_a_section));
+  write_sections(dvbpsi_pat_sections_generate(handle, pat, asked->in_a_section));
   dvbpsi_pat_delete(pat);
 }
 
@@ -46,8 +44,8 @@ static void add_stream(dvbpsi_pmt_t *pmt, struct stream stream) {
 }
 
 static void write_pmt(dvbpsi_t *handle, const struct pmt *asked) {
-  dvbpsi_pmt_t *pmt = dvbpsi_pmt_new(asked->program, asked->version,
-                                     asked->current, asked->pcr_pid);
+  dvbpsi_pmt_t *pmt =
+      dvbpsi_pmt_new(asked->program, asked->version, asked->current, asked->pcr_pid);
   uint8_t *bytes = (uint8_t *)asked->descriptors.bytes;
   for (size_t i = 0; i < asked->descriptors.size; i += 2 + bytes[i + 1])
     dvbpsi_pmt_descriptor_add(pmt, bytes[i], bytes[i + 1], bytes + i + 2);

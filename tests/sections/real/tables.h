@@ -14,9 +14,9 @@ struct descriptors {
   size_t size;
 };
 
-#define DESCRIPTORS(...)                                                       \
+#define DESCRIPTORS(...)                                                                           \
   { (const uint8_t[]){__VA_ARGS__}, sizeof((const uint8_t[]){__VA_ARGS__}) }
-#define NO_DESCRIPTORS                                                         \
+#define NO_DESCRIPTORS                                                                             \
   { NULL, 0 }
 
 struct program {
@@ -93,8 +93,7 @@ static const struct pat pats[] = {
 
 /* private bytes, 72 with tag and length */
 #define TEN(n) n, n, n, n, n, n, n, n, n, n
-#define PRIVATE(n)                                                             \
-  0x80 + n, 0x46, TEN(n), TEN(n), TEN(n), TEN(n), TEN(n), TEN(n), TEN(n)
+#define PRIVATE(n) 0x80 + n, 0x46, TEN(n), TEN(n), TEN(n), TEN(n), TEN(n), TEN(n), TEN(n)
 
 static const struct pmt pmts[] = {
     {"pmt-video-and-audio",
@@ -161,8 +160,7 @@ static inline struct program program_of(const struct pat *pat, size_t i) {
 static inline struct stream stream_of(const struct pmt *pmt, size_t i) {
   if (i < pmt->listed)
     return pmt->streams[i];
-  return (struct stream){3, 2048 + (i - pmt->listed),
-                         pmt->streams[pmt->listed - 1].info};
+  return (struct stream){3, 2048 + (i - pmt->listed), pmt->streams[pmt->listed - 1].info};
 }
 
 static inline void write_hex(const uint8_t *bytes, size_t size) {
