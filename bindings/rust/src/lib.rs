@@ -1,0 +1,2 @@
+//! Bindings in progress.
+pub mod ffi;
