@@ -1,0 +1,6 @@
+pub mod Flags
+pub mod Packets
+pub mod AdaptationFields
+pub mod Sections
+pub mod Walks
+pub mod Gathering
