@@ -1,2 +1,5 @@
 pub mod Flags
 pub mod States
+pub mod SectionsForC
+pub mod HandedBack
+pub mod Determined
