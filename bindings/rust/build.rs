@@ -5,8 +5,9 @@ fn main() {
     println!("cargo:rerun-if-env-changed=JAMBPEPPER_LIB");
     let folder = match env::var_os("JAMBPEPPER_LIB") {
         Some(folder) => PathBuf::from(folder),
-        None => PathBuf::from(env::var_os("CARGO_MANIFEST_DIR").unwrap())
-            .join("../../target/staticlib"),
+        None => {
+            PathBuf::from(env::var_os("CARGO_MANIFEST_DIR").unwrap()).join("../../target/staticlib")
+        }
     };
     let library = folder.join("libcapi.a");
     if !library.exists() {
