@@ -258,9 +258,8 @@ JambpepperStep jambpepper_head(JambpepperReader reader, const uint8_t *packet, s
                                uint8_t *buffer, size_t buffer_length);
 
 /*
- * The place, where the answer is 2 and it lies within the bytes lent; else
- * nowhere, of length 0. (A step's own place always lies within the bytes that
- * the step was lent.)
+ * The place, where the answer is 2 and the place has bytes that lie within those lent; else
+ * nowhere, of length 0. (A step's own place always lies within the bytes that the step was lent.)
  */
 JambpepperPlace jambpepper_section(const uint8_t *packet, size_t packet_length,
                                    const uint8_t *buffer, size_t buffer_length, uint8_t answer,

@@ -1,0 +1,168 @@
+//! What the calls answer, as plain numbers in document 01's words: the form in which the sides are compared.
+//!
+//! A flag is 1 or 0, kept as the byte that the C face gives, so that another byte is seen.
+
+pub const PACKET_BYTES: usize = 188;
+pub const BUFFER_BYTES: usize = 1024;
+
+pub type Buffer = [u8; BUFFER_BYTES];
+
+/// The numbers of document 01's table of answers run from 0 to 26.
+pub const ANSWERS: usize = 27;
+
+pub const FORMS: [(u8, &str); 3] = [(0, "COMPACT"), (1, "FULL"), (2, "ONCE")];
+pub const COMPACT: u8 = 0;
+pub const FULL: u8 = 1;
+pub const ONCE: u8 = 2;
+
+pub const NOWHERE: u8 = 0;
+pub const IN_PACKET: u8 = 1;
+pub const IN_BUFFER: u8 = 2;
+
+#[derive(Clone, Copy, Debug, Default, PartialEq, Eq)]
+pub struct Header {
+    pub answer: u8,
+    pub error: u8,
+    pub unit_start: u8,
+    pub priority: u8,
+    pub pid: u16,
+    pub scrambling: u8,
+    pub control: u8,
+    pub counter: u8,
+}
+
+#[derive(Clone, Copy, Debug, Default, PartialEq, Eq)]
+pub struct Payload {
+    pub answer: u8,
+    pub start: usize,
+}
+
+#[derive(Clone, Copy, Debug, Default, PartialEq, Eq)]
+pub struct Adaptation {
+    pub answer: u8,
+    pub length: u8,
+    /// from bit 7 down
+    pub flags: [u8; 8],
+}
+
+#[derive(Clone, Copy, Debug, Default, PartialEq, Eq)]
+pub struct Clock {
+    pub answer: u8,
+    pub base: u64,
+    pub extension: u16,
+}
+
+#[derive(Clone, Copy, Debug, Default, PartialEq, Eq)]
+pub struct Splice {
+    pub answer: u8,
+    pub countdown: u8,
+}
+
+#[derive(Clone, Copy, Debug, Default, PartialEq, Eq)]
+pub struct Part {
+    pub answer: u8,
+    pub start: usize,
+    pub length: usize,
+}
+
+#[derive(Clone, Copy, Debug, Default, PartialEq, Eq)]
+pub struct SectionHeader {
+    pub answer: u8,
+    pub table_id: u8,
+    pub syntax: u8,
+    pub private: u8,
+    pub length: u16,
+}
+
+#[derive(Clone, Copy, Debug, Default, PartialEq, Eq)]
+pub struct TableHeader {
+    pub answer: u8,
+    pub id: u16,
+    pub version: u8,
+    pub current: u8,
+    pub number: u8,
+    pub last: u8,
+}
+
+#[derive(Clone, Copy, Debug, Default, PartialEq, Eq)]
+pub struct Program {
+    pub answer: u8,
+    pub number: u16,
+    pub pid: u16,
+    pub next: usize,
+}
+
+#[derive(Clone, Copy, Debug, Default, PartialEq, Eq)]
+pub struct Pmt {
+    pub answer: u8,
+    pub needed: usize,
+    pub actual: usize,
+    pub pcr_pid: u16,
+    pub descriptors_start: usize,
+    pub descriptors_length: usize,
+    pub streams: usize,
+}
+
+#[derive(Clone, Copy, Debug, Default, PartialEq, Eq)]
+pub struct Stream {
+    pub answer: u8,
+    pub stream_type: u8,
+    pub pid: u16,
+    pub info_start: usize,
+    pub info_length: usize,
+    pub next: usize,
+}
+
+#[derive(Clone, Copy, Debug, Default, PartialEq, Eq)]
+pub struct State {
+    pub form: u8,
+    pub known: u8,
+    pub version: u8,
+    pub is_open: u8,
+    pub held: u16,
+    pub wanted: u16,
+}
+
+#[derive(Clone, Copy, Debug, Default, PartialEq, Eq)]
+pub struct Place {
+    pub holder: u8,
+    pub start: u16,
+    pub length: u16,
+}
+
+#[derive(Clone, Copy, Debug, Default, PartialEq, Eq)]
+pub struct Step {
+    pub answer: u8,
+    pub state: State,
+    pub place: Place,
+}
+
+/// A PAT walk: number and PID of each entry, and how it ends.
+pub type PatWalk = (Vec<(u16, u16)>, u8);
+
+/// A walk over a PMT's streams, and how it ends.
+pub type PmtWalk = (Vec<Stream>, u8);
+
+/// Every public call. The port and the model have all of them, for any bytes and any numbers.
+pub trait Calls {
+    fn header(&self, packet: &[u8]) -> Header;
+    fn payload(&self, packet: &[u8]) -> Payload;
+    fn follows(&self, counter: u8, other: u8) -> u8;
+    fn adaptation(&self, packet: &[u8]) -> Adaptation;
+    fn pcr(&self, packet: &[u8]) -> Clock;
+    fn opcr(&self, packet: &[u8]) -> Clock;
+    fn splice(&self, packet: &[u8]) -> Splice;
+    fn private_data(&self, packet: &[u8]) -> Part;
+    fn section_header(&self, section: &[u8]) -> SectionHeader;
+    fn table_header(&self, section: &[u8]) -> TableHeader;
+    fn body(&self, section: &[u8]) -> Part;
+    fn crc(&self, bytes: &[u8]) -> u32;
+    fn program_at(&self, body: &[u8], position: usize) -> Program;
+    fn pmt_start(&self, body: &[u8]) -> Pmt;
+    fn stream_at(&self, body: &[u8], position: usize) -> Stream;
+    fn fresh(&self, form: u8) -> State;
+    fn is_sound(&self, state: State) -> u8;
+    fn tail(&self, state: State, packet: &[u8], buffer: &mut [u8]) -> Step;
+    fn head(&self, state: State, packet: &[u8], buffer: &mut [u8]) -> Step;
+    fn section(&self, packet: &[u8], buffer: &[u8], answer: u8, place: Place) -> Place;
+}

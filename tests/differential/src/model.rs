@@ -1,0 +1,569 @@
+//! The model: document 01 in its words and its order, and the struct of numbers that the C face makes of it. It shares no code with the port or
+//! with the Rust crate, and is written to be read, not to be fast: fields are cut out bit by bit, the CRC is the bit steps.
+
+use crate::answers::*;
+
+pub struct Model;
+
+/// The number in `count` bits from bit `from` on, the most significant first.
+fn bits(bytes: &[u8], from: usize, count: usize) -> u64 {
+    (from..from + count).fold(0, |number, bit| {
+        number * 2 + u64::from(bytes[bit / 8] >> (7 - bit % 8) & 1)
+    })
+}
+
+fn flag(bytes: &[u8], bit: usize) -> u8 {
+    bits(bytes, bit, 1) as u8
+}
+
+/// "188 bytes, the first 0x47": 3 or 4, or 0.
+fn packet_refusal(packet: &[u8]) -> u8 {
+    if packet.len() != 188 {
+        3
+    } else if packet[0] != 0x47 {
+        4
+    } else {
+        0
+    }
+}
+
+/// Where the payload of a packet starts, or 6, 7, 8.
+fn payload_start(packet: &[u8]) -> Result<usize, u8> {
+    let start = match bits(packet, 26, 2) {
+        0b01 => 4,
+        0b11 => 5 + usize::from(packet[4]),
+        _ => return Err(6),
+    };
+    match start {
+        0..=187 => Ok(start),
+        188 => Err(7),
+        _ => Err(8),
+    }
+}
+
+/// The adaptation field of a packet, from its flags on, or 18, 19.
+fn adaptation_field(packet: &[u8]) -> Result<&[u8], u8> {
+    let length = usize::from(packet[4]);
+    match (bits(packet, 26, 2), length) {
+        (0b00 | 0b01, _) | (0b11, 0) => Err(18),
+        (0b10, 183) | (0b11, 1..=182) => Ok(&packet[5..5 + length]),
+        _ => Err(19),
+    }
+}
+
+/// 3, 4, 18, 19, or the field.
+fn checked_field(packet: &[u8]) -> Result<&[u8], u8> {
+    match packet_refusal(packet) {
+        0 => adaptation_field(packet),
+        refusal => Err(refusal),
+    }
+}
+
+const PCR: usize = 3;
+const OPCR: usize = 4;
+const SPLICE: usize = 5;
+const PRIVATE: usize = 6;
+
+/// Where the optional part starts in the field: behind the flags and those present parts that come before it.
+fn part_start(field: &[u8], part: usize) -> usize {
+    let sizes = [(PCR, 6), (OPCR, 6), (SPLICE, 1)];
+    let before = sizes.iter().filter(|(earlier, _)| *earlier < part);
+    let present = before.filter(|(earlier, _)| flag(field, *earlier) == 1);
+    1 + present.map(|(_, size)| size).sum::<usize>()
+}
+
+/// The bytes of an optional part of fixed size, or 3, 4, 18 to 21.
+fn fixed_part(packet: &[u8], part: usize, size: usize) -> Result<&[u8], u8> {
+    let field = checked_field(packet)?;
+    if flag(field, part) == 0 {
+        return Err(20);
+    }
+    let start = part_start(field, part);
+    if field.len() < start + size {
+        return Err(21);
+    }
+    Ok(&field[start..start + size])
+}
+
+fn clock(packet: &[u8], part: usize) -> Clock {
+    match fixed_part(packet, part, 6) {
+        Err(answer) => Clock {
+            answer,
+            ..Clock::default()
+        },
+        Ok(bytes) => Clock {
+            answer: 0,
+            base: bits(bytes, 0, 33),
+            extension: bits(bytes, 39, 9) as u16,
+        },
+    }
+}
+
+/// Where the private data lies in the packet, or 3, 4, 18 to 21.
+fn private_place(packet: &[u8]) -> Result<(usize, usize), u8> {
+    let length_byte = fixed_part(packet, PRIVATE, 1)?;
+    let field = checked_field(packet)?;
+    let start = part_start(field, PRIVATE) + 1;
+    let length = usize::from(length_byte[0]);
+    if field.len() < start + length {
+        return Err(21);
+    }
+    Ok((5 + start, length))
+}
+
+/// What is left of the body from the position on, or 26, 23.
+fn left(body: &[u8], position: usize) -> Result<&[u8], u8> {
+    match body.get(position..) {
+        None => Err(26),
+        Some([]) => Err(23),
+        Some(bytes) => Ok(bytes),
+    }
+}
+
+fn sound(state: State) -> bool {
+    let flags = state.known <= 1 && state.is_open <= 1;
+    let least = if state.form == COMPACT { 3 } else { 8 };
+    let counts = if state.is_open == 0 {
+        state.held == 0 && state.wanted == 0
+    } else {
+        least <= state.held && state.held < state.wanted && state.wanted <= 1024
+    };
+    // none is one value: not known, version 0
+    let none = state.known == 0 && state.version == 0;
+    let memory = none || (state.form == ONCE && state.known == 1 && state.version <= 31);
+    state.form <= 2 && flags && counts && memory
+}
+
+/// "Checks before either step, in order: 3, 4, 5, 25, then 6, 7, 8": the payload, or the refusal.
+fn checked<'a>(state: State, packet: &'a [u8], buffer: &[u8]) -> Result<&'a [u8], u8> {
+    let refusal = packet_refusal(packet);
+    if refusal != 0 {
+        return Err(refusal);
+    }
+    if buffer.len() != 1024 {
+        return Err(5);
+    }
+    if !sound(state) {
+        return Err(25);
+    }
+    payload_start(packet).map(|start| &packet[start..])
+}
+
+fn unit_start(packet: &[u8]) -> bool {
+    flag(packet, 9) == 1
+}
+
+/// The pointer and the rest, or 9.
+fn pointer(payload: &[u8]) -> Result<(usize, &[u8]), u8> {
+    let (pointer, rest) = (usize::from(payload[0]), &payload[1..]);
+    if pointer > 0 && pointer >= rest.len() {
+        return Err(9);
+    }
+    Ok((pointer, rest))
+}
+
+fn idle(state: State) -> State {
+    State {
+        is_open: 0,
+        held: 0,
+        wanted: 0,
+        ..state
+    }
+}
+
+fn forgotten(state: State) -> State {
+    State {
+        known: 0,
+        version: 0,
+        ..state
+    }
+}
+
+/// An answer without a place.
+fn plain(answer: u8, state: State) -> Step {
+    Step {
+        answer,
+        state,
+        place: Place::default(),
+    }
+}
+
+/// The refusals that leave the reader idle; 9 and 10 forget the version, the others do not.
+fn refused(answer: u8, state: State) -> Step {
+    let kept = if answer == 9 || answer == 10 {
+        forgotten(state)
+    } else {
+        state
+    };
+    plain(answer, idle(kept))
+}
+
+/// The register after one bit of the data.
+fn bit_step(register: u32, bit: u8) -> u32 {
+    let top = (register >> 31) as u8;
+    let shifted = register << 1;
+    if top ^ bit == 1 {
+        shifted ^ 0x04C1_1DB7
+    } else {
+        shifted
+    }
+}
+
+pub fn remainder(bytes: &[u8]) -> u32 {
+    bytes.iter().fold(0xFFFF_FFFF, |register, byte| {
+        (0..8).rev().fold(register, |register, place| {
+            bit_step(register, byte >> place & 1)
+        })
+    })
+}
+
+/// "A whole section": 16, 17, or 2 with its place.
+fn whole(state: State, section: &[u8], place: Place) -> Step {
+    let state = idle(state);
+    if state.form != COMPACT && section.len() < 12 {
+        return plain(16, state);
+    }
+    if state.form != COMPACT && remainder(section) != 0 {
+        return plain(17, state);
+    }
+    Step {
+        answer: 2,
+        state,
+        place,
+    }
+}
+
+/// The bytes continue: 15, 1, or a whole section.
+fn continued(state: State, bytes: &[u8], buffer: &mut [u8]) -> Step {
+    if state.is_open == 0 {
+        return refused(15, state);
+    }
+    let (held, wanted) = (usize::from(state.held), usize::from(state.wanted));
+    let copied = &bytes[..bytes.len().min(wanted - held)];
+    buffer[held..held + copied.len()].copy_from_slice(copied);
+    if held + copied.len() < wanted {
+        let held = state.held + copied.len() as u16;
+        return plain(1, State { held, ..state });
+    }
+    let place = Place {
+        holder: IN_BUFFER,
+        start: 0,
+        length: state.wanted,
+    };
+    whole(state, &buffer[..wanted], place)
+}
+
+/// 10 to 14 for the bytes from the pointer on, or 0.
+fn start_refusal(state: State, bytes: &[u8]) -> u8 {
+    if bytes.len() < 3 {
+        return 10;
+    }
+    if flag(bytes, 8) != u8::from(state.form != COMPACT) {
+        return 11;
+    }
+    if state.form != COMPACT && bytes.len() < 8 {
+        return 12;
+    }
+    if bits(bytes, 12, 12) > 1021 {
+        return 13;
+    }
+    if state.form == ONCE && state.known == 1 && bits(bytes, 42, 5) == u64::from(state.version) {
+        return 14;
+    }
+    0
+}
+
+/// A section starts with these bytes, which stand at `at` in the packet.
+fn started(state: State, at: usize, bytes: &[u8], buffer: &mut [u8]) -> Step {
+    let refusal = start_refusal(state, bytes);
+    if refusal != 0 {
+        return refused(refusal, state);
+    }
+    let state = if state.form == ONCE {
+        let version = bits(bytes, 42, 5) as u8;
+        State {
+            known: 1,
+            version,
+            ..state
+        }
+    } else {
+        state
+    };
+    let wanted = 3 + bits(bytes, 12, 12) as usize;
+    if wanted <= bytes.len() {
+        let place = Place {
+            holder: IN_PACKET,
+            start: at as u16,
+            length: wanted as u16,
+        };
+        return whole(state, &bytes[..wanted], place);
+    }
+    buffer[..bytes.len()].copy_from_slice(bytes);
+    let open = State {
+        is_open: 1,
+        held: bytes.len() as u16,
+        wanted: wanted as u16,
+        ..state
+    };
+    plain(1, open)
+}
+
+impl Calls for Model {
+    fn header(&self, packet: &[u8]) -> Header {
+        let answer = packet_refusal(packet);
+        if answer != 0 {
+            return Header {
+                answer,
+                ..Header::default()
+            };
+        }
+        Header {
+            answer: 0,
+            error: flag(packet, 8),
+            unit_start: flag(packet, 9),
+            priority: flag(packet, 10),
+            pid: bits(packet, 11, 13) as u16,
+            scrambling: bits(packet, 24, 2) as u8,
+            control: bits(packet, 26, 2) as u8,
+            counter: bits(packet, 28, 4) as u8,
+        }
+    }
+
+    fn payload(&self, packet: &[u8]) -> Payload {
+        let start = match packet_refusal(packet) {
+            0 => payload_start(packet),
+            refusal => Err(refusal),
+        };
+        match start {
+            Ok(start) => Payload { answer: 0, start },
+            Err(answer) => Payload { answer, start: 0 },
+        }
+    }
+
+    fn follows(&self, counter: u8, other: u8) -> u8 {
+        u8::from(counter <= 15 && other <= 15 && counter == (other + 1) % 16)
+    }
+
+    fn adaptation(&self, packet: &[u8]) -> Adaptation {
+        match checked_field(packet) {
+            Err(answer) => Adaptation {
+                answer,
+                ..Adaptation::default()
+            },
+            Ok(field) => Adaptation {
+                answer: 0,
+                length: field.len() as u8,
+                flags: std::array::from_fn(|bit| flag(field, bit)),
+            },
+        }
+    }
+
+    fn pcr(&self, packet: &[u8]) -> Clock {
+        clock(packet, PCR)
+    }
+
+    fn opcr(&self, packet: &[u8]) -> Clock {
+        clock(packet, OPCR)
+    }
+
+    fn splice(&self, packet: &[u8]) -> Splice {
+        match fixed_part(packet, SPLICE, 1) {
+            Err(answer) => Splice {
+                answer,
+                countdown: 0,
+            },
+            Ok(bytes) => Splice {
+                answer: 0,
+                countdown: bytes[0],
+            },
+        }
+    }
+
+    fn private_data(&self, packet: &[u8]) -> Part {
+        match private_place(packet) {
+            Err(answer) => Part {
+                answer,
+                ..Part::default()
+            },
+            Ok((start, length)) => Part {
+                answer: 0,
+                start,
+                length,
+            },
+        }
+    }
+
+    fn section_header(&self, section: &[u8]) -> SectionHeader {
+        if section.len() < 3 {
+            return SectionHeader {
+                answer: 10,
+                ..SectionHeader::default()
+            };
+        }
+        SectionHeader {
+            answer: 0,
+            table_id: section[0],
+            syntax: flag(section, 8),
+            private: flag(section, 9),
+            length: bits(section, 12, 12) as u16,
+        }
+    }
+
+    fn table_header(&self, section: &[u8]) -> TableHeader {
+        if section.len() < 8 {
+            return TableHeader {
+                answer: 12,
+                ..TableHeader::default()
+            };
+        }
+        TableHeader {
+            answer: 0,
+            id: bits(section, 24, 16) as u16,
+            version: bits(section, 42, 5) as u8,
+            current: flag(section, 47),
+            number: section[6],
+            last: section[7],
+        }
+    }
+
+    fn body(&self, section: &[u8]) -> Part {
+        if section.len() < 12 {
+            return Part {
+                answer: 16,
+                ..Part::default()
+            };
+        }
+        Part {
+            answer: 0,
+            start: 8,
+            length: section.len() - 8 - 4,
+        }
+    }
+
+    fn crc(&self, bytes: &[u8]) -> u32 {
+        remainder(bytes)
+    }
+
+    fn program_at(&self, body: &[u8], position: usize) -> Program {
+        let answer = match left(body, position) {
+            Err(answer) => answer,
+            Ok(bytes) if bytes.len() < 4 => 24,
+            Ok(bytes) => {
+                return Program {
+                    answer: 0,
+                    number: bits(bytes, 0, 16) as u16,
+                    pid: bits(bytes, 19, 13) as u16,
+                    next: position + 4,
+                }
+            }
+        };
+        Program {
+            answer,
+            ..Program::default()
+        }
+    }
+
+    fn pmt_start(&self, body: &[u8]) -> Pmt {
+        let needed = if body.len() < 4 {
+            4
+        } else {
+            4 + bits(body, 20, 12) as usize
+        };
+        if body.len() < needed {
+            return Pmt {
+                answer: 22,
+                needed,
+                actual: body.len(),
+                ..Pmt::default()
+            };
+        }
+        Pmt {
+            pcr_pid: bits(body, 3, 13) as u16,
+            descriptors_start: 4,
+            descriptors_length: needed - 4,
+            streams: needed,
+            ..Pmt::default()
+        }
+    }
+
+    fn stream_at(&self, body: &[u8], position: usize) -> Stream {
+        let answer = match left(body, position) {
+            Err(answer) => answer,
+            Ok(bytes) if bytes.len() < 5 => 24,
+            Ok(bytes) if bytes.len() < 5 + bits(bytes, 28, 12) as usize => 24,
+            Ok(bytes) => {
+                let info_length = bits(bytes, 28, 12) as usize;
+                return Stream {
+                    answer: 0,
+                    stream_type: bytes[0],
+                    pid: bits(bytes, 11, 13) as u16,
+                    info_start: position + 5,
+                    info_length,
+                    next: position + 5 + info_length,
+                };
+            }
+        };
+        Stream {
+            answer,
+            ..Stream::default()
+        }
+    }
+
+    fn fresh(&self, form: u8) -> State {
+        State {
+            form,
+            ..State::default()
+        }
+    }
+
+    fn is_sound(&self, state: State) -> u8 {
+        u8::from(sound(state))
+    }
+
+    fn tail(&self, state: State, packet: &[u8], buffer: &mut [u8]) -> Step {
+        let payload = match checked(state, packet, buffer) {
+            Err(answer) => return plain(answer, state),
+            Ok(payload) => payload,
+        };
+        if !unit_start(packet) {
+            return continued(state, payload, buffer);
+        }
+        match pointer(payload) {
+            Err(answer) => refused(answer, state),
+            Ok((0, _)) => plain(0, state),
+            Ok((pointer, rest)) => continued(state, &rest[..pointer], buffer),
+        }
+    }
+
+    fn head(&self, state: State, packet: &[u8], buffer: &mut [u8]) -> Step {
+        let payload = match checked(state, packet, buffer) {
+            Err(answer) => return plain(answer, state),
+            Ok(payload) => payload,
+        };
+        if !unit_start(packet) {
+            return plain(0, state);
+        }
+        match pointer(payload) {
+            Err(answer) => refused(answer, state),
+            Ok((pointer, rest)) => {
+                let bytes = &rest[pointer..];
+                started(state, 188 - bytes.len(), bytes, buffer)
+            }
+        }
+    }
+
+    fn section(&self, packet: &[u8], buffer: &[u8], answer: u8, place: Place) -> Place {
+        let holder = match place.holder {
+            IN_PACKET => packet.len(),
+            IN_BUFFER => buffer.len(),
+            _ => return Place::default(),
+        };
+        let end = usize::from(place.start) + usize::from(place.length);
+        // the C face gives nowhere for every empty part, also for one that lies within
+        if answer == 2 && end <= holder && place.length > 0 {
+            place
+        } else {
+            Place::default()
+        }
+    }
+}

@@ -1,0 +1,457 @@
+//! Does the comparison see? Small slips, each laid over the answers of one side, and each must be noticed by a shortened run.
+
+use crate::answers::*;
+use crate::compare::{Comparison, MODEL, PORT};
+use crate::report::Difference;
+use crate::run::{run, Amount};
+
+#[derive(Clone, Copy, Debug, PartialEq, Eq)]
+enum Slip {
+    // steps
+    TailPlaceOneLate,
+    HeadPlaceOneLate,
+    LengthOneShort,
+    HolderSwapped,
+    RepeatedIs15,
+    PointerKeepsVersion,
+    Under3KeepsVersion,
+    SyntaxForgetsVersion,
+    Under8ForgetsVersion,
+    LimitForgetsVersion,
+    WrongCrcForgetsVersion,
+    OpeningForgetsVersion,
+    HeldOneMore,
+    WantedOneMore,
+    ByteBehindSection,
+    ByteOnWrongCrc,
+    ByteKeptWrong,
+    NoSectionOpenIs0,
+    LimitStaysOpen,
+    Under12IsWrongCrc,
+    CrcNotTested,
+    EmptyPayloadIs8,
+    BufferBeforeSyncByte,
+    UnknownVersionTaken,
+    FormAboveTaken,
+    FlagAboveTaken,
+    UnsoundMadeFresh,
+    PayloadBeforeState,
+    DeliveredUnchecked,
+    // packets
+    ExtensionMasked,
+    BaseLowestBit,
+    CountdownSevenBits,
+    PrivateDataOneEarly,
+    FieldLengthIsAbsence,
+    LengthByteOneLess,
+    FlagsSwapped,
+    FlagAsItStands,
+    PidTwelveBits,
+    ErrorIsPriority,
+    ScramblingIsControl,
+    RefusedNotZero,
+    CounterAbove15,
+    // sections and walks
+    CrcOfNothing,
+    CurrentTurned,
+    VersionFourBits,
+    SyntaxIsPrivate,
+    BodyKeepsCrc,
+    BodyOfTwelveRefused,
+    ProgramPidTwelveBits,
+    NoEntryFitsIsEnd,
+    NextOneShort,
+    NeededWithoutHeader,
+    InfoLengthEightBits,
+    DescriptorsOneLate,
+    PositionAboveIsEnd,
+}
+use Slip::*;
+
+/// Every slip, and whether the Rust crate shows enough to notice it without the model.
+const SLIPS: [(Slip, bool); 55] = [
+    (TailPlaceOneLate, true),
+    (HeadPlaceOneLate, true),
+    (LengthOneShort, true),
+    (HolderSwapped, true),
+    (RepeatedIs15, true),
+    (PointerKeepsVersion, true),
+    (Under3KeepsVersion, true),
+    (SyntaxForgetsVersion, true),
+    (Under8ForgetsVersion, true),
+    (LimitForgetsVersion, true),
+    (WrongCrcForgetsVersion, true),
+    (OpeningForgetsVersion, true),
+    (HeldOneMore, true),
+    (WantedOneMore, true),
+    (ByteBehindSection, false),
+    (ByteOnWrongCrc, false),
+    (ByteKeptWrong, true),
+    (NoSectionOpenIs0, true),
+    (LimitStaysOpen, true),
+    (Under12IsWrongCrc, true),
+    (CrcNotTested, true),
+    (EmptyPayloadIs8, true),
+    (BufferBeforeSyncByte, false),
+    (UnknownVersionTaken, false),
+    (FormAboveTaken, false),
+    (FlagAboveTaken, false),
+    (UnsoundMadeFresh, false),
+    (PayloadBeforeState, false),
+    (DeliveredUnchecked, false),
+    (ExtensionMasked, true),
+    (BaseLowestBit, true),
+    (CountdownSevenBits, true),
+    (PrivateDataOneEarly, true),
+    (FieldLengthIsAbsence, true),
+    (LengthByteOneLess, true),
+    (FlagsSwapped, true),
+    (FlagAsItStands, true),
+    (PidTwelveBits, true),
+    (ErrorIsPriority, true),
+    (ScramblingIsControl, true),
+    (RefusedNotZero, false),
+    (CounterAbove15, false),
+    (CrcOfNothing, true),
+    (CurrentTurned, true),
+    (VersionFourBits, true),
+    (SyntaxIsPrivate, true),
+    (BodyKeepsCrc, false),
+    (BodyOfTwelveRefused, false),
+    (ProgramPidTwelveBits, true),
+    (NoEntryFitsIsEnd, true),
+    (NextOneShort, true),
+    (NeededWithoutHeader, true),
+    (InfoLengthEightBits, true),
+    (DescriptorsOneLate, true),
+    (PositionAboveIsEnd, false),
+];
+
+const SHORTENED: Amount = Amount {
+    seed: 7,
+    packets: 20_000,
+    cases: 20_000,
+    depth: 3,
+    whole: false,
+};
+
+/// A side whose answers have one slip in them.
+struct Mutated<'a> {
+    side: &'a dyn Calls,
+    slip: Slip,
+}
+
+fn with_memory_of(other: State, state: State) -> State {
+    State {
+        known: other.known,
+        version: other.version,
+        ..state
+    }
+}
+
+fn without_memory(state: State) -> State {
+    with_memory_of(State::default(), state)
+}
+
+impl Mutated<'_> {
+    /// What the state is taken for.
+    fn taken(&self, state: State) -> State {
+        match self.slip {
+            UnknownVersionTaken if state.known == 0 => without_memory(state),
+            FormAboveTaken => State {
+                form: state.form.min(ONCE),
+                ..state
+            },
+            FlagAboveTaken => State {
+                is_open: state.is_open.min(1),
+                ..state
+            },
+            _ => state,
+        }
+    }
+
+    /// The slips that do not ask which of the two steps it is.
+    fn step(&self, before: State, packet: &[u8], buffer: &mut [u8], mut step: Step) -> Step {
+        match (self.slip, step.answer) {
+            (HolderSwapped, 2) => step.place.holder = 3 - step.place.holder,
+            (PointerKeepsVersion, 9) | (Under3KeepsVersion, 10) => {
+                step.state = with_memory_of(before, step.state);
+            }
+            (SyntaxForgetsVersion, 11)
+            | (Under8ForgetsVersion, 12)
+            | (LimitForgetsVersion, 13)
+            | (WrongCrcForgetsVersion, 17) => step.state = without_memory(step.state),
+            (ByteOnWrongCrc, 17) => buffer[0] ^= 1,
+            (NoSectionOpenIs0, 15) => step.answer = 0,
+            (Under12IsWrongCrc, 16) => step.answer = 17,
+            (CrcNotTested, 17) => step.answer = 2,
+            (EmptyPayloadIs8, 7) => step.answer = 8,
+            (BufferBeforeSyncByte, 4) if buffer.len() != BUFFER_BYTES => step.answer = 5,
+            (PayloadBeforeState, 25) if self.side.payload(packet).answer != 0 => {
+                step.answer = self.side.payload(packet).answer;
+            }
+            (UnsoundMadeFresh, 25) => step.state = self.side.fresh(before.form),
+            (RefusedNotZero, 4) => step.place.start = u16::from(packet[1]),
+            _ => {}
+        }
+        step
+    }
+
+    fn clock(&self, mut clock: Clock) -> Clock {
+        match self.slip {
+            ExtensionMasked => clock.extension &= 0xFF,
+            BaseLowestBit => clock.base &= !1,
+            _ => {}
+        }
+        clock
+    }
+}
+
+impl Calls for Mutated<'_> {
+    fn header(&self, packet: &[u8]) -> Header {
+        let mut header = self.side.header(packet);
+        match self.slip {
+            PidTwelveBits => header.pid &= 0xFFF,
+            ErrorIsPriority => header.error = header.priority,
+            ScramblingIsControl => header.scrambling = header.control,
+            FlagAsItStands => header.unit_start <<= 6,
+            RefusedNotZero if header.answer == 4 => header.counter = packet[3] & 15,
+            _ => {}
+        }
+        header
+    }
+
+    fn payload(&self, packet: &[u8]) -> Payload {
+        let mut payload = self.side.payload(packet);
+        if self.slip == EmptyPayloadIs8 && payload.answer == 7 {
+            payload.answer = 8;
+        }
+        payload
+    }
+
+    fn follows(&self, counter: u8, other: u8) -> u8 {
+        if self.slip == CounterAbove15 {
+            return self.side.follows(counter & 15, other & 15);
+        }
+        self.side.follows(counter, other)
+    }
+
+    fn adaptation(&self, packet: &[u8]) -> Adaptation {
+        let mut field = self.side.adaptation(packet);
+        match self.slip {
+            FieldLengthIsAbsence if field.answer == 19 => field.answer = 18,
+            LengthByteOneLess => field.length = field.length.saturating_sub(1),
+            FlagsSwapped => field.flags.swap(5, 6),
+            _ => {}
+        }
+        field
+    }
+
+    fn pcr(&self, packet: &[u8]) -> Clock {
+        self.clock(self.side.pcr(packet))
+    }
+
+    fn opcr(&self, packet: &[u8]) -> Clock {
+        self.clock(self.side.opcr(packet))
+    }
+
+    fn splice(&self, packet: &[u8]) -> Splice {
+        let mut splice = self.side.splice(packet);
+        if self.slip == CountdownSevenBits {
+            splice.countdown &= 0x7F;
+        }
+        splice
+    }
+
+    fn private_data(&self, packet: &[u8]) -> Part {
+        let mut part = self.side.private_data(packet);
+        if self.slip == PrivateDataOneEarly {
+            part.start = part.start.saturating_sub(1);
+        }
+        part
+    }
+
+    fn section_header(&self, section: &[u8]) -> SectionHeader {
+        let mut header = self.side.section_header(section);
+        if self.slip == SyntaxIsPrivate {
+            header.syntax = header.private;
+        }
+        header
+    }
+
+    fn table_header(&self, section: &[u8]) -> TableHeader {
+        let mut header = self.side.table_header(section);
+        match self.slip {
+            CurrentTurned if header.answer == 0 => header.current ^= 1,
+            VersionFourBits => header.version &= 15,
+            _ => {}
+        }
+        header
+    }
+
+    fn body(&self, section: &[u8]) -> Part {
+        let mut body = self.side.body(section);
+        match self.slip {
+            BodyKeepsCrc if body.answer == 0 => body.length += 4,
+            BodyOfTwelveRefused if section.len() == 12 => {
+                body = Part {
+                    answer: 16,
+                    ..Part::default()
+                };
+            }
+            _ => {}
+        }
+        body
+    }
+
+    fn crc(&self, bytes: &[u8]) -> u32 {
+        if self.slip == CrcOfNothing && bytes.is_empty() {
+            return 0;
+        }
+        self.side.crc(bytes)
+    }
+
+    fn program_at(&self, body: &[u8], position: usize) -> Program {
+        let mut program = self.side.program_at(body, position);
+        match (self.slip, program.answer) {
+            (ProgramPidTwelveBits, 0) => program.pid &= 0xFFF,
+            (NoEntryFitsIsEnd, 24) | (PositionAboveIsEnd, 26) => program.answer = 23,
+            _ => {}
+        }
+        program
+    }
+
+    fn pmt_start(&self, body: &[u8]) -> Pmt {
+        let mut pmt = self.side.pmt_start(body);
+        match (self.slip, pmt.answer) {
+            (NeededWithoutHeader, 22) => pmt.needed -= 4,
+            (DescriptorsOneLate, 0) => pmt.descriptors_start += 1,
+            _ => {}
+        }
+        pmt
+    }
+
+    fn stream_at(&self, body: &[u8], position: usize) -> Stream {
+        let mut stream = self.side.stream_at(body, position);
+        match (self.slip, stream.answer) {
+            (NextOneShort, 0) => stream.next -= 1,
+            (InfoLengthEightBits, 0) => stream.info_length &= 0xFF,
+            (PositionAboveIsEnd, 26) => stream.answer = 23,
+            _ => {}
+        }
+        stream
+    }
+
+    fn fresh(&self, form: u8) -> State {
+        self.side.fresh(form)
+    }
+
+    fn is_sound(&self, state: State) -> u8 {
+        self.side.is_sound(self.taken(state))
+    }
+
+    fn tail(&self, state: State, packet: &[u8], buffer: &mut [u8]) -> Step {
+        let step = self.side.tail(self.taken(state), packet, buffer);
+        let mut step = self.step(state, packet, buffer, step);
+        match (self.slip, step.answer) {
+            (TailPlaceOneLate, 2) => step.place.start += 1,
+            (HeldOneMore, 1) => step.state.held += 1,
+            (ByteBehindSection, 2) => {
+                if let Some(byte) = buffer.get_mut(usize::from(step.place.length)) {
+                    *byte ^= 1;
+                }
+            }
+            _ => {}
+        }
+        step
+    }
+
+    fn head(&self, state: State, packet: &[u8], buffer: &mut [u8]) -> Step {
+        let step = self.side.head(self.taken(state), packet, buffer);
+        let mut step = self.step(state, packet, buffer, step);
+        match (self.slip, step.answer) {
+            (HeadPlaceOneLate, 2) => step.place.start += 1,
+            (LengthOneShort, 2) => step.place.length -= 1,
+            (RepeatedIs15, 14) => step.answer = 15,
+            (WantedOneMore, 1) => step.state.wanted += 1,
+            (OpeningForgetsVersion, 1) => step.state = with_memory_of(state, step.state),
+            (ByteKeptWrong, 1) => buffer[usize::from(step.state.held) - 1] ^= 0x80,
+            (LimitStaysOpen, 13) => step.state = state,
+            _ => {}
+        }
+        step
+    }
+
+    fn section(&self, packet: &[u8], buffer: &[u8], answer: u8, place: Place) -> Place {
+        if self.slip == DeliveredUnchecked && answer == 2 {
+            return place;
+        }
+        self.side.section(packet, buffer, answer, place)
+    }
+}
+
+/// A run that ends at the first difference; `None` where it finds none.
+fn notices(
+    port: &dyn Calls,
+    model: &dyn Calls,
+    beside_crate: bool,
+    beside_model: bool,
+) -> Option<Box<Difference>> {
+    let mut comparison = Comparison::new(port, model);
+    comparison.beside_crate = beside_crate;
+    comparison.beside_model = beside_model;
+    run(&mut comparison, SHORTENED, &|_| {}).err()
+}
+
+/// Lays one slip over the port and tells the difference as any other is told.
+pub fn show(port: &dyn Calls, model: &dyn Calls, name: &str) -> bool {
+    let mut slips = SLIPS.iter().map(|(slip, _)| *slip);
+    let Some(slip) = slips.find(|slip| format!("{slip:?}") == name) else {
+        println!("no slip is called {name}; --mutations names them");
+        return false;
+    };
+    let slipped = Mutated { side: port, slip };
+    let found = notices(&slipped, model, cfg!(feature = "rust-crate"), true);
+    if let Some(difference) = &found {
+        println!("{}", difference.print(SHORTENED.seed));
+    }
+    found.is_some()
+}
+
+/// Lays every slip over the port beside the model, over the model beside the port, and, where the crate shows it, over the port beside the
+/// crate alone. True where each is noticed, and nothing where there is no slip.
+pub fn all_noticed(port: &dyn Calls, model: &dyn Calls) -> bool {
+    let with_crate = cfg!(feature = "rust-crate");
+    let mut good = true;
+    if let Some(difference) = notices(port, model, with_crate, true) {
+        println!("without a slip:\n{}", difference.print(SHORTENED.seed));
+        good = false;
+    }
+    for (slip, shown) in SLIPS {
+        let slipped_port = Mutated { side: port, slip };
+        let slipped_model = Mutated { side: model, slip };
+        let mut tries = vec![
+            (PORT, MODEL, notices(&slipped_port, model, false, true)),
+            (MODEL, PORT, notices(port, &slipped_model, false, true)),
+        ];
+        if with_crate && shown {
+            let found = notices(&slipped_port, model, true, false);
+            tries.push((PORT, "crate", found));
+        }
+        for (side, beside, found) in tries {
+            good &= found.is_some();
+            let found = match found {
+                Some(difference) => format!("noticed in {}", difference.what),
+                None => "NOT NOTICED".to_string(),
+            };
+            println!("{slip:?} in the {side}, beside the {beside}: {found}");
+        }
+    }
+    let verdict = if good {
+        "each was noticed"
+    } else {
+        "NOT all were noticed"
+    };
+    println!("{} slips: {verdict}", SLIPS.len());
+    good
+}
