@@ -1,0 +1,47 @@
+-- `bodies::walk` is safe and ends: each turn is one call fewer of those that it allows. Assumes nothing.
+use Prim.Native.Nat.{_+_, _-_, _≤_}
+use lib.ListN.{length}
+use borrow.Author.Needs.{needs}
+use Rattle.crate_answers.proofs.bodies.walk.Statement.{statement}
+use Rattle.crate_answers.proofs.bodies.walk.Tie as tie
+
+abbrev Inv-loop : tie.InvT-loop
+Inv-loop is-pmt body start position₀ calls₀ position calls = calls ≤ length body + 1
+
+abbrev μ-loop : tie.MeasureT-loop
+μ-loop is-pmt body start position₀ calls₀ position calls = (length body + 1) - calls
+
+loop-holds : tie.Need-loop-holds Inv-loop μ-loop
+loop-holds c = search needs
+
+say-entry-requires : tie.Need-say-entry-requires Inv-loop μ-loop
+say-entry-requires c κs = search needs
+
+add-calls : tie.Need-add-calls Inv-loop μ-loop
+add-calls c = search needs
+
+loop-less : tie.Need-loop-less Inv-loop μ-loop
+loop-less c = search needs
+
+loop-again : tie.Need-loop-again Inv-loop μ-loop
+loop-again c = search needs
+
+returns : tie.Need-returns Inv-loop μ-loop
+returns c = search needs
+
+returns-2 : tie.Need-returns-2 Inv-loop μ-loop
+returns-2 c = search needs
+
+pub walk-spec : {M : Type 1} → statement M
+walk-spec =
+    tie.close
+    (tie.spec
+    Inv-loop
+    μ-loop
+    loop-holds
+    say-entry-requires
+    add-calls
+    loop-less
+    loop-again
+    returns
+    returns-2)
