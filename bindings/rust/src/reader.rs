@@ -133,13 +133,13 @@ impl Step {
     /// lie within these bytes.
     pub fn section<'a>(&self, packet: &'a [u8], buffer: &'a [u8]) -> &'a [u8] {
         let place = calls::section(packet, buffer, self.number(), self.place.written());
-        let (start, end) = (place.start, place.start + place.length);
+        let (start, length) = (usize::from(place.start), usize::from(place.length));
         let bytes = match Holder::numbered(place.holder) {
             Holder::Nowhere => &[],
             Holder::Packet => packet,
             Holder::Buffer => buffer,
         };
-        &bytes[start.into()..end.into()]
+        &bytes[start..start + length]
     }
 
     /// The number of its answer in the table of answers.
@@ -337,6 +337,22 @@ mod tests {
 
         let again = tail.reader.head(&first, &mut buffer);
         assert_eq!(again.answer, Err(Refusal::VersionRepeated));
+    }
+
+    #[test]
+    fn a_place_that_ends_beyond_65535() {
+        let bytes = [0; 70_001];
+        let step = Step {
+            reader: Reader::fresh(Form::Compact),
+            answer: Ok(Gathered::Delivered),
+            place: Place {
+                holder: Holder::Packet,
+                start: 60_000,
+                length: 10_000,
+            },
+        };
+        assert_eq!(step.section(&bytes, &[]).len(), 10_000);
+        assert_eq!(step.section(&bytes[..69_999], &[]), &[]);
     }
 
     #[test]
