@@ -1,5 +1,6 @@
 pub mod Xor
 pub mod Steps
+pub mod Nibbles
 pub mod Table
 pub mod Bytes
 pub mod Remainder

@@ -34,7 +34,7 @@ plus-xor x y p q =
     ∙ xor-swap x y (0 plusPolynomialIf p % 2) (0 plusPolynomialIf q % 2)
     ∙ sym (ap₂ bitXor (plus-apart x (p % 2)) (plus-apart y (q % 2)))
 
-step-xor : (a b : ℕ) → bitStep (bitXor a b) ≡ bitXor (bitStep a) (bitStep b)
+pub step-xor : (a b : ℕ) → bitStep (bitXor a b) ≡ bitXor (bitStep a) (bitStep b)
 unfolding bitStep
 step-xor a b =
     ap₂ _plusPolynomialIf_ (ap (λ n. n % 2 ^ 32) (xor-shl a b 1) ∙ xor-mod (a * 2) (b * 2) 32)

@@ -5,21 +5,29 @@ use mathlib.Core.List.{List, [], _∷_}
 use Prim.Native.Nat.{ℕ, zero, suc, _+_, _^_, _<_}
 use native.Mathlib.Nat.{add-zero, zero-add, add-suc, suc-add, le-of-suc-le-suc, not-suc-le-zero}
 use lib.ListN.{getD}
-use Rattle.mpegts_crc.specs.StepTable.{entryOf, StepTable}
+use Rattle.mpegts_crc.specs.StepTable.{entryOf, StepTable, nibbleEntry, NibbleTables}
 
 -- n entries by a rule, the first for the place i
-abbrev pub listed : (ℕ → ℕ) → ℕ → ℕ → List ℕ
+abbrev pub listed : {A : Type 0} → (ℕ → A) → ℕ → ℕ → List A
 listed rule i zero = []
 listed rule i (suc n) = rule i ∷ listed rule (suc i) n
 
-listed-at : (rule : ℕ → ℕ) (i n j : ℕ) → j < n → getD (listed rule i n) j 0 ≡ rule (i + j)
-listed-at rule i zero j h = absurd (not-suc-le-zero h)
-listed-at rule i (suc n) zero h = ap rule (sym (add-zero i))
-listed-at rule i (suc n) (suc j) h = listed-at rule (suc i) n j (le-of-suc-le-suc h) ∙ ap rule (suc-add i j ∙ sym (add-suc i j))
+listed-from : {A : Type 0} (rule : ℕ → A) (other : A) (i n j : ℕ) → j < n → getD (listed rule i n) j other ≡ rule (i + j)
+listed-from rule other i zero j h = absurd (not-suc-le-zero h)
+listed-from rule other i (suc n) zero h = ap rule (sym (add-zero i))
+listed-from rule other i (suc n) (suc j) h =
+    listed-from rule other (suc i) n j (le-of-suc-le-suc h) ∙ ap rule (suc-add i j ∙ sym (add-suc i j))
+
+pub listed-at : {A : Type 0} (rule : ℕ → A) (other : A) (n i : ℕ) → i < n → getD (listed rule 0 n) i other ≡ rule i
+listed-at rule other n i h = listed-from rule other 0 n i h ∙ ap rule (zero-add i)
 
 -- the test, and the rule that it gives
 pub step-table : (k : ℕ) {table : List ℕ} → table ≡ listed (entryOf k) 0 (2 ^ k) → StepTable k table
-step-table k test =
+step-table k test = record { entry = λ i h. ap (λ t. getD t i 0) test ∙ listed-at (entryOf k) 0 (2 ^ k) i h; }
+
+pub nibble-tables : {tables : List (List ℕ)} → tables ≡ listed (λ j. listed (nibbleEntry j) 0 16) 0 16 → NibbleTables tables
+nibble-tables test =
     record {
-      entry = λ i h. ap (λ t. getD t i 0) test ∙ listed-at (entryOf k) 0 (2 ^ k) i h ∙ ap (entryOf k) (zero-add i);
+      entry = λ j i hj hi. ap (λ t. getD (getD t j []) i 0) test
+      ∙ ap (λ t. getD t i 0) (listed-at (λ n. listed (nibbleEntry n) 0 16) [] 16 j hj) ∙ listed-at (nibbleEntry j) 0 16 i hi;
     }

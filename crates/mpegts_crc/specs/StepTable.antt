@@ -1,8 +1,8 @@
--- The rule of a table that stands for k bit steps at once. `CRC_TABLE` has it at eight.
+-- The rules of the tables that stand for many bit steps at once. `CRC_TABLE` has the first at eight, `NIBBLE_TABLES` the second.
 -- Assumes nothing.
 use mathlib.Core.Path.{_≡_}
-use mathlib.Core.List.{List}
-use Prim.Native.Nat.{ℕ, _-_, _*_, _^_, _<_}
+use mathlib.Core.List.{List, []}
+use Prim.Native.Nat.{ℕ, _+_, _-_, _*_, _^_, _<_}
 use lib.ListN.{getD}
 use Rattle.mpegts_crc.specs.Crc.{bitSteps}
 
@@ -13,3 +13,11 @@ entryOf k i = bitSteps k (i * 2 ^ (32 - k))
 -- "entry i is eight bit steps on i placed in the top byte", for k bits
 pub record StepTable (k : ℕ) (table : List ℕ) : Type 0 where
   pub entry : (i : ℕ) → i < 2 ^ k → getD table i 0 ≡ entryOf k i
+
+-- four bits i placed in the top four, with the steps that bring them and the 4 * j bits behind them through the register
+abbrev pub nibbleEntry : ℕ → ℕ → ℕ
+nibbleEntry j i = bitSteps ((j + 1) * 4) (i * 2 ^ 28)
+
+-- sixteen tables, one for each four bits of 64
+pub record NibbleTables (tables : List (List ℕ)) : Type 0 where
+  pub entry : (j i : ℕ) → j < 16 → i < 16 → getD (getD tables j []) i 0 ≡ nibbleEntry j i

@@ -11,22 +11,19 @@ use Rattle.mpegts_crc.proofs.byte_enters.Tie as tie
 place : (c : tie.Start) → bitXor (c .args .register / 2 ^ 24) (c .args .byte) < 2 ^ 8
 place c = index-lt 8 24 refl (c .fits .register .fits) (c .fits .byte .fits)
 
-cast-result : tie.Need-cast-result
-cast-result c = omega (arith, place c)
+cast-entry : tie.Need-cast-entry
+cast-entry c = omega (arith, place c)
 
-mul-result : tie.Need-mul-result
-mul-result c = omega (arith, place c)
-
-element-copy-out-result : tie.Need-element-copy-out-result
-element-copy-out-result c = omega (arith, place c)
+entry-requires : tie.Need-entry-requires
+entry-requires c κs = (c .pre, place c)
 
 returns : tie.Need-returns
 returns c =
     let s = c .before in
     let register = s .args .register in
     let byte = s .args .byte in
-    ap (bitXor (register * 2 ^ 8 % 2 ^ 32)) (s .pre .entry (bitXor (register / 2 ^ 24) byte) (place s))
+    ap (bitXor (register * 2 ^ 8 % 2 ^ 32)) (c .entry .ensures)
     ∙ sym (table-step 8 24 refl register byte (s .fits .byte .fits))
 
 pub byte-enters-spec : {M : Type 1} → statement M
-byte-enters-spec = tie.close (tie.spec cast-result mul-result element-copy-out-result returns)
+byte-enters-spec = tie.close (tie.spec cast-entry entry-requires returns)

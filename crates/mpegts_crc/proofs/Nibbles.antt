@@ -1,0 +1,108 @@
+-- Many bits enter at once. What they bring into the register is the sum of what each four of them bring, `four-more`; and a register is as good as
+-- 32 bits ahead of those that enter a register of zero, `register-ahead`. Assumes nothing.
+use mathlib.Core.Path.{_≡_, refl, sym, ap, ap₂, _∙_}
+use mathlib.Core.List.{List, []}
+use Prim.Native.Nat.{ℕ, zero, suc, _+_, _*_, _/_, _%_, _^_, _<_}
+use native.Mathlib.Nat.{zero-add, suc-add, mul-one, zero-mul, zero-div, div-one, mod-lt, mod-eq-of-lt, mul-mod-left}
+use native.Mathlib.Omega.{arith}
+use lib.ListN.{getD}
+use lib.Pow.{pow-pos, split, shl-shr}
+use lib.Bits.{bitXor, xor-shr, xor-mod, xor-shifted, xor-comm, xor-zero-l, xor-zero-r}
+use Rattle.mpegts_crc.specs.Crc.{bitStep, bitSteps, bitEnters, bitsEnter}
+use Rattle.mpegts_crc.specs.StepTable.{entryOf, nibbleEntry, NibbleTables}
+use Rattle.mpegts_crc.proofs.Xor.{xor-swap, xor-shl}
+use Rattle.mpegts_crc.proofs.Steps.{step-xor, steps-xor, enter-top, enter-join}
+
+-- ---- what enters is a sum
+
+enters-xor : (r s x y : ℕ) → bitEnters (bitXor r s) (bitXor x y) ≡ bitXor (bitEnters r x) (bitEnters s y)
+unfolding bitEnters
+enters-xor r s x y =
+    ap bitStep (ap (bitXor (bitXor r s)) (xor-shl x y 31) ∙ xor-swap r s (x * 2 ^ 31) (y * 2 ^ 31))
+    ∙ step-xor (bitXor r (x * 2 ^ 31)) (bitXor s (y * 2 ^ 31))
+
+enter-xor : (k r s m n : ℕ) → bitsEnter k (bitXor r s) (bitXor m n) ≡ bitXor (bitsEnter k r m) (bitsEnter k s n)
+unfolding bitsEnter
+enter-xor zero r s m n = refl
+enter-xor (suc k) r s m n =
+    ap (λ t. bitsEnter k t (bitXor m n))
+    (ap (bitEnters (bitXor r s)) (ap (λ x. x % 2) (xor-shr m n k) ∙ xor-mod (m / 2 ^ k) (n / 2 ^ k) 1)
+    ∙ enters-xor r s (m / 2 ^ k % 2) (n / 2 ^ k % 2))
+    ∙ enter-xor k (bitEnters r (m / 2 ^ k % 2)) (bitEnters s (n / 2 ^ k % 2)) m n
+
+zeros-enter : (k register : ℕ) → bitsEnter k register 0 ≡ bitSteps k register
+unfolding bitsEnter bitEnters bitSteps
+zeros-enter zero register = refl
+zeros-enter (suc k) register =
+    ap (λ r. bitsEnter k r 0)
+    (ap (λ b. bitStep (bitXor register (b % 2 * 2 ^ 31))) (zero-div (2 ^ k)) ∙ ap bitStep (xor-zero-r register))
+    ∙ zeros-enter k (bitStep register)
+
+-- the register and the bits apart
+enter-apart : (k register n : ℕ) → bitsEnter k register n ≡ bitXor (bitSteps k register) (bitsEnter k 0 n)
+enter-apart k register n =
+    sym (ap₂ (bitsEnter k) (xor-zero-r register) (xor-zero-l n)) ∙ enter-xor k register 0 0 n
+    ∙ ap (λ r. bitXor r (bitsEnter k 0 n)) (zeros-enter k register)
+
+steps-join : (j k register : ℕ) → bitSteps k (bitSteps j register) ≡ bitSteps (j + k) register
+unfolding bitSteps
+steps-join zero k register = ap (λ w. bitSteps w register) (sym (zero-add k))
+steps-join (suc j) k register = steps-join j k (bitStep register) ∙ ap (λ w. bitSteps w register) (sym (suc-add j k))
+
+-- ---- four bits more, ahead of the 4 * n that entered a register of zero
+
+four-more : (n bits : ℕ) → bitsEnter ((n + 1) * 4) 0 bits ≡ bitXor (bitsEnter (n * 4) 0 bits) (nibbleEntry n (bits / 2 ^ (n * 4) % 16))
+four-more n bits =
+    let q : (n + 1) * 4 ≡ 4 + n * 4 = omega arith in
+    let ahead : ℕ = bits / 2 ^ (n * 4) in
+    let top : ℕ = ahead % 16 * 2 ^ 28 in
+    ap (λ w. bitsEnter w 0 bits) q ∙ sym (enter-join 4 (n * 4) 0 bits) ∙ enter-apart (n * 4) (bitsEnter 4 0 ahead) bits
+    ∙ xor-comm (bitSteps (n * 4) (bitsEnter 4 0 ahead)) (bitsEnter (n * 4) 0 bits)
+    ∙ ap (bitXor (bitsEnter (n * 4) 0 bits))
+    (ap (bitSteps (n * 4)) (enter-top 4 28 refl 0 ahead ∙ ap (bitSteps 4) (xor-zero-l top)) ∙ steps-join 4 (n * 4) top
+    ∙ ap (λ w. bitSteps w top) (sym q))
+
+-- the same by the tables
+module _ {tables : List (List ℕ)} (rule : NibbleTables tables) (bits : ℕ) where
+  pub first-four : {four : ℕ} → four ≡ getD (getD tables 0 []) (bits % 16) 0 → four ≡ bitsEnter 4 0 bits
+  unfolding bitsEnter
+  first-four {four} e =
+      e ∙ rule .entry 0 (bits % 16) (omega arith) (mod-lt bits (pow-pos 4))
+      ∙ ap (λ b. nibbleEntry 0 (b % 16)) (sym (div-one bits)) ∙ sym (four-more 0 bits ∙ xor-zero-l (nibbleEntry 0 (bits / 1 % 16)))
+
+  pub next-four : (n : ℕ) {sum four : ℕ} → n < 16 → sum ≡ bitsEnter (n * 4) 0 bits
+      → four ≡ getD (getD tables n []) (bits / 2 ^ (n * 4) % 16) 0 → bitXor sum four ≡ bitsEnter ((n + 1) * 4) 0 bits
+  next-four n h p e =
+      ap₂ bitXor p (e ∙ rule .entry n (bits / 2 ^ (n * 4) % 16) h (mod-lt (bits / 2 ^ (n * 4)) (pow-pos 4))) ∙ sym (four-more n bits)
+
+-- ---- the register as the first 32 bits
+
+module _ (k m : ℕ) (e : m + k ≡ 32) where
+  through : (register : ℕ) → register < 2 ^ 32 → bitsEnter (32 + k) 0 (register * 2 ^ k) ≡ bitSteps (32 + k) register
+  through register h =
+      let r : ℕ = bitSteps 32 register in
+      sym (enter-join 32 k 0 (register * 2 ^ k))
+      ∙ ap (λ n. bitsEnter k n (register * 2 ^ k))
+      (ap (bitsEnter 32 0) (shl-shr register k) ∙ enter-top 32 0 refl 0 register
+      ∙ ap (bitSteps 32) (xor-zero-l (register % 2 ^ 32 * 1) ∙ mul-one (register % 2 ^ 32) ∙ mod-eq-of-lt h))
+      ∙ enter-top k m e r (register * 2 ^ k)
+      ∙ ap (bitSteps k)
+      (ap (bitXor r) (ap (λ n. n * 2 ^ m) (mul-mod-left register (2 ^ k)) ∙ zero-mul (2 ^ m)) ∙ xor-zero-r r)
+      ∙ steps-join 32 k register
+
+  pub register-ahead : (register n : ℕ) → register < 2 ^ 32
+      → bitsEnter (32 + k) register n ≡ bitsEnter (32 + k) 0 (bitXor (register * 2 ^ k) n)
+  register-ahead register n h =
+      enter-apart (32 + k) register n ∙ ap (λ r. bitXor r (bitsEnter (32 + k) 0 n)) (sym (through register h))
+      ∙ sym (enter-xor (32 + k) 0 0 (register * 2 ^ k) n)
+
+-- ---- a byte as two fours
+
+pub two-fours : (i : ℕ) → i < 256 → bitXor (entryOf 8 (i % 16 * 1)) (entryOf 8 (i / 16 % 16 * 16)) ≡ entryOf 8 i
+two-fours i h =
+    let low : ℕ = i % 16 in
+    let high : ℕ = i / 16 * 16 in
+    ap₂ (λ x y. bitXor (entryOf 8 x) (entryOf 8 (y * 16))) (mul-one low) (mod-eq-of-lt (let q : i / 16 < 16 = omega arith in q))
+    ∙ xor-comm (entryOf 8 low) (entryOf 8 high) ∙ sym (steps-xor 8 (high * 2 ^ 24) (low * 2 ^ 24))
+    ∙ ap (bitSteps 8) (sym (xor-shl high low 24))
+    ∙ ap (entryOf 8) (xor-shifted (i / 16) 4 low (mod-lt i (pow-pos 4)) ∙ split i 4)
