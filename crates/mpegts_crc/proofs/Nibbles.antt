@@ -1,15 +1,13 @@
 -- Many bits enter at once. What they bring into the register is the sum of what each four of them bring, `four-more`; and a register is as good as
 -- 32 bits ahead of those that enter a register of zero, `register-ahead`. Assumes nothing.
 use mathlib.Core.Path.{_≡_, refl, sym, ap, ap₂, _∙_}
-use mathlib.Core.List.{List, []}
 use Prim.Native.Nat.{ℕ, zero, suc, _+_, _*_, _/_, _%_, _^_, _<_}
 use native.Mathlib.Nat.{zero-add, suc-add, mul-one, zero-mul, zero-div, div-one, mod-lt, mod-eq-of-lt, mul-mod-left}
 use native.Mathlib.Omega.{arith}
-use lib.ListN.{getD}
 use lib.Pow.{pow-pos, split, shl-shr}
 use lib.Bits.{bitXor, xor-shr, xor-mod, xor-shifted, xor-comm, xor-zero-l, xor-zero-r}
 use Rattle.mpegts_crc.specs.Crc.{bitStep, bitSteps, bitEnters, bitsEnter}
-use Rattle.mpegts_crc.specs.StepTable.{entryOf, nibbleEntry, NibbleTables}
+use Rattle.mpegts_crc.specs.StepTable.{entryOf, nibbleEntry}
 use Rattle.mpegts_crc.proofs.Xor.{xor-swap, xor-shl}
 use Rattle.mpegts_crc.proofs.Steps.{step-xor, steps-xor, enter-top, enter-join}
 
@@ -62,18 +60,16 @@ four-more n bits =
     (ap (bitSteps (n * 4)) (enter-top 4 28 refl 0 ahead ∙ ap (bitSteps 4) (xor-zero-l top)) ∙ steps-join 4 (n * 4) top
     ∙ ap (λ w. bitSteps w top) (sym q))
 
--- the same by the tables
-module _ {tables : List (List ℕ)} (rule : NibbleTables tables) (bits : ℕ) where
-  pub first-four : {four : ℕ} → four ≡ getD (getD tables 0 []) (bits % 16) 0 → four ≡ bitsEnter 4 0 bits
+-- the same of numbers that are known to be equal
+module _ (bits : ℕ) where
+  pub first-four : {four : ℕ} → four ≡ nibbleEntry 0 (bits % 16) → four ≡ bitsEnter 4 0 bits
   unfolding bitsEnter
-  first-four {four} e =
-      e ∙ rule .entry 0 (bits % 16) (omega arith) (mod-lt bits (pow-pos 4))
-      ∙ ap (λ b. nibbleEntry 0 (b % 16)) (sym (div-one bits)) ∙ sym (four-more 0 bits ∙ xor-zero-l (nibbleEntry 0 (bits / 1 % 16)))
+  first-four e =
+      e ∙ ap (λ b. nibbleEntry 0 (b % 16)) (sym (div-one bits)) ∙ sym (four-more 0 bits ∙ xor-zero-l (nibbleEntry 0 (bits / 1 % 16)))
 
-  pub next-four : (n : ℕ) {sum four : ℕ} → n < 16 → sum ≡ bitsEnter (n * 4) 0 bits
-      → four ≡ getD (getD tables n []) (bits / 2 ^ (n * 4) % 16) 0 → bitXor sum four ≡ bitsEnter ((n + 1) * 4) 0 bits
-  next-four n h p e =
-      ap₂ bitXor p (e ∙ rule .entry n (bits / 2 ^ (n * 4) % 16) h (mod-lt (bits / 2 ^ (n * 4)) (pow-pos 4))) ∙ sym (four-more n bits)
+  pub next-four : (n : ℕ) {sum four : ℕ} → sum ≡ bitsEnter (n * 4) 0 bits → four ≡ nibbleEntry n (bits / 2 ^ (n * 4) % 16)
+      → bitXor sum four ≡ bitsEnter ((n + 1) * 4) 0 bits
+  next-four n p e = ap₂ bitXor p e ∙ sym (four-more n bits)
 
 -- ---- the register as the first 32 bits
 

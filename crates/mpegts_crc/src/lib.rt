@@ -1,9 +1,9 @@
 // The 32-bit CRC of ISO/IEC 13818-1, Annex A, eight bytes at a time.
 ghost use mathlib.Core.Path.{_≡_};
 ghost use Prim.Native.Nat.{ℕ, _*_, _%_, _<_, _≤_};
-ghost use lib.ListN.{getD};
-ghost use Rattle.mpegts_crc.specs.Crc.{bitsEnter, crcOf};
-ghost use Rattle.mpegts_crc.specs.StepTable.{entryOf, StepTable, NibbleTables};
+ghost use lib.ListN.{getD, drop};
+ghost use Rattle.mpegts_crc.specs.Crc.{bitsEnter, crcFrom, crcOf};
+ghost use Rattle.mpegts_crc.specs.StepTable.{entryOf, StepTable, nibbleEntry, NibbleTables};
 use fields::word;
 
 // The CRC of the bytes, however many.
@@ -16,9 +16,16 @@ pub fn sum32(data: &[u8]) -> u32
         register = eight_bytes_enter(&NIBBLE_TABLES, register, word(data, at, 8));
         at += 8;
     }
-    while at < data.len() {
-        register = byte_enters(&CRC_TABLE, register, data[at]);
-        at += 1;
+    bytes_enter(register, data, at)
+}
+
+// The register after the bytes from `at` on, one by one.
+fn bytes_enter(register: u32, data: &[u8], at: usize) -> u32
+    ensures { λ r. ⌜ r ≡ crcFrom register (drop at (now («data» .entry))) ⌝ }
+{
+    let mut register = register;
+    for i in at..data.len() {
+        register = byte_enters(&CRC_TABLE, register, data[i]);
     }
     register
 }
@@ -29,22 +36,30 @@ fn eight_bytes_enter(tables: &[[u32; 16]; 16], register: u32, bytes: u64) -> u32
     ensures { λ r. ⌜ r ≡ bitsEnter 64 register bytes ⌝ }
 {
     let bits = ((register as u64) << 32) ^ bytes;
-    picked(tables[0], bits)
-        ^ picked(tables[1], bits >> 4)
-        ^ picked(tables[2], bits >> 8)
-        ^ picked(tables[3], bits >> 12)
-        ^ picked(tables[4], bits >> 16)
-        ^ picked(tables[5], bits >> 20)
-        ^ picked(tables[6], bits >> 24)
-        ^ picked(tables[7], bits >> 28)
-        ^ picked(tables[8], bits >> 32)
-        ^ picked(tables[9], bits >> 36)
-        ^ picked(tables[10], bits >> 40)
-        ^ picked(tables[11], bits >> 44)
-        ^ picked(tables[12], bits >> 48)
-        ^ picked(tables[13], bits >> 52)
-        ^ picked(tables[14], bits >> 56)
-        ^ picked(tables[15], bits >> 60)
+    nibble(tables, 0, bits)
+        ^ nibble(tables, 1, bits >> 4)
+        ^ nibble(tables, 2, bits >> 8)
+        ^ nibble(tables, 3, bits >> 12)
+        ^ nibble(tables, 4, bits >> 16)
+        ^ nibble(tables, 5, bits >> 20)
+        ^ nibble(tables, 6, bits >> 24)
+        ^ nibble(tables, 7, bits >> 28)
+        ^ nibble(tables, 8, bits >> 32)
+        ^ nibble(tables, 9, bits >> 36)
+        ^ nibble(tables, 10, bits >> 40)
+        ^ nibble(tables, 11, bits >> 44)
+        ^ nibble(tables, 12, bits >> 48)
+        ^ nibble(tables, 13, bits >> 52)
+        ^ nibble(tables, 14, bits >> 56)
+        ^ nibble(tables, 15, bits >> 60)
+}
+
+// The entry of table j for the last four bits of i.
+fn nibble(tables: &[[u32; 16]; 16], j: usize, i: u64) -> u32
+    requires { ⌜ NibbleTables (now tables) × (j < 16) ⌝ }
+    ensures { λ r. ⌜ r ≡ nibbleEntry j (i % 16) ⌝ }
+{
+    picked(tables[j], i)
 }
 
 // The register after one more byte.
