@@ -23,11 +23,11 @@ listed-at rule other n i h = listed-from rule other 0 n i h ∙ ap rule (zero-ad
 
 -- the test, and the rule that it gives
 pub step-table : (k : ℕ) {table : List ℕ} → table ≡ listed (entryOf k) 0 (2 ^ k) → StepTable k table
-step-table k test = record { entry = λ i h. ap (λ t. getD t i 0) test ∙ listed-at (entryOf k) 0 (2 ^ k) i h; }
+step-table k test = record { entry = λ i h. ap (λ t. getD t i 0) test ∙ listed-at (entryOf k) 0 (2 ^ k) i h }
 
 pub nibble-tables : {tables : List (List ℕ)} → tables ≡ listed (λ j. listed (nibbleEntry j) 0 16) 0 16 → NibbleTables tables
 nibble-tables test =
     record {
       entry = λ j i hj hi. ap (λ t. getD (getD t j []) i 0) test
-      ∙ ap (λ t. getD t i 0) (listed-at (λ n. listed (nibbleEntry n) 0 16) [] 16 j hj) ∙ listed-at (nibbleEntry j) 0 16 i hi;
+          ∙ ap (λ t. getD t i 0) (listed-at (λ n. listed (nibbleEntry n) 0 16) [] 16 j hj) ∙ listed-at (nibbleEntry j) 0 16 i hi;
     }
