@@ -8,9 +8,9 @@ use borrow.Author.Tests.{eqb-true}
 use lib.ListN.{length, take, drop}
 use Rattle.fields.specs.Choice.{if_then_else_, _is_}
 use Rattle.fields.proofs.Choices.{test-holds, test-fails, of-either}
-use Rattle.reader.specs.declared.Holder.{Holder}
+use Rattle.delivered.specs.declared.Holder.{Holder}
+use Rattle.delivered.specs.Delivered.{partOf, partHeldBy, sectionOf}
 use Rattle.reader.specs.Outcome.{nowhere}
-use Rattle.reader.specs.Delivered.{partOf, partHeldBy, sectionOf}
 use Rattle.capi.specs.Gathering.{holderOf, placeForC, placeFromC, sectionForC, readAt}
 use Rattle.capi.specs.declared.gathering.JambpepperPlace.{JambpepperPlace}
 
@@ -50,6 +50,7 @@ module _ (packet buffer : List ℕ) (answer : ℕ) (place : JambpepperPlace) whe
     where
       there : List ℕ → List ℕ
       there bytes = take (place .length) (drop (place .start) bytes)
+
       HeldThere : Holder → Type 0
       HeldThere holder = NotEmpty (partHeldBy holder packet buffer (place .start) (place .length))
           → partHeldBy holder packet buffer (place .start) (place .length) ≡ there held

@@ -6,14 +6,16 @@ use mathlib.Core.List.{List}
 use lib.ListN.{length}
 use Rattle.fields.specs.Choice.{if_then_else_, _and_}
 use Rattle.fields.proofs.Choices.{test-fails}
+use Rattle.gathering_rules.specs.Memory.{soundMemory}
+use Rattle.gathering_rules.specs.Checks.{checked}
+use Rattle.gathering_rules.proofs.Checking.{found-place}
 use Rattle.reader.specs.declared.Reader.{Reader}
 use Rattle.reader.specs.declared.Step.{Step}
-use Rattle.reader.specs.State.{soundMemory, soundCounts, sound}
+use Rattle.reader.specs.State.{soundCounts, sound}
 use Rattle.reader.specs.Outcome.{Outcome, outcome, answered}
-use Rattle.reader.specs.Checks.{checked, fromAPlace, fromThePayload}
+use Rattle.reader.specs.Checks.{fromAPlace, fromThePayload}
 use Rattle.reader.specs.Tail.{tailOf}
 use Rattle.reader.specs.Head.{headOf}
-use Rattle.reader.proofs.Checking.{found-place}
 use Rattle.capi.specs.Gathering.{namesReader, readerForC, readerFromC, notSound, takenFromC, soundForC}
 use Rattle.capi.specs.Gathering.{outcomeForC, answeredForC, stepForC, refusedForC, workedForC}
 use Rattle.capi.specs.declared.gathering.JambpepperReader.{JambpepperReader}

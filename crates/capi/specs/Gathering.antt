@@ -4,15 +4,16 @@ use mathlib.Core.Bool.{Bool, false}
 use mathlib.Core.List.{List}
 use lib.ListN.{length, take, drop}
 use Rattle.fields.specs.Choice.{if_then_else_, _and_, _is_, _isAtMost_}
-use Rattle.reader.specs.declared.Form.{Form}
-use Rattle.reader.specs.declared.Holder.{Holder}
-use Rattle.reader.specs.declared.Place.{Place}
+use Rattle.gathering_rules.specs.declared.Form.{Form}
+use Rattle.gathering_rules.specs.Memory.{noMemory}
+use Rattle.gathering_rules.specs.Checks.{checked}
+use Rattle.delivered.specs.declared.Holder.{Holder}
+use Rattle.delivered.specs.declared.Place.{Place}
+use Rattle.delivered.specs.Delivered.{sectionOf}
 use Rattle.reader.specs.declared.Reader.{Reader}
 use Rattle.reader.specs.declared.Step.{Step}
-use Rattle.reader.specs.State.{noMemory, sound, fresh}
+use Rattle.reader.specs.State.{sound, fresh}
 use Rattle.reader.specs.Outcome.{Outcome, nowhere}
-use Rattle.reader.specs.Checks.{checked}
-use Rattle.reader.specs.Delivered.{sectionOf}
 use Rattle.capi.specs.Flags.{flag}
 use Rattle.capi.specs.declared.gathering.JambpepperReader.{JambpepperReader}
 use Rattle.capi.specs.declared.gathering.JambpepperPlace.{JambpepperPlace}

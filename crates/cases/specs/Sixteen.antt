@@ -20,10 +20,13 @@ use Rattle.psi.specs.Walk.{foundAt}
 use Rattle.pat.specs.declared.ProgramDescriptor.{ProgramDescriptor}
 use Rattle.pat.specs.Programs.{programOf, programAt}
 use Rattle.pmt.specs.Streams.{streamOf, streamAt}
-use Rattle.reader.specs.declared.Form.{Form}
-use Rattle.reader.specs.State.{soundMemory, soundCounts, sound}
-use Rattle.reader.specs.Checks.{checked, fromAPlace, fromThePayload}
-use Rattle.reader.specs.Head.{repeats, startRefusal, begun, started, headFrom, headOf}
+use Rattle.gathering_rules.specs.declared.Form.{Form}
+use Rattle.gathering_rules.specs.Memory.{soundMemory, repeats}
+use Rattle.gathering_rules.specs.Checks.{checked}
+use Rattle.gathering_rules.specs.Start.{startRefusal}
+use Rattle.reader.specs.State.{soundCounts, sound}
+use Rattle.reader.specs.Checks.{fromAPlace, fromThePayload}
+use Rattle.reader.specs.Head.{begun, started, headFrom, headOf}
 use Rattle.reader.specs.Cases.{headAnswer, starting, onePayloadByte}
 
 -- a row: the number in document 01, what is asked, the answer as the definitions compute it, and what is due. An answer is a list of numbers: where a call

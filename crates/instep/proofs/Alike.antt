@@ -10,8 +10,11 @@ use borrow.Author.Tests.{ltb-false}
 use Rattle.fields.specs.Choice.{if_then_else_}
 use Rattle.fields.proofs.LaidBytes.{laid-length, laid-up-to-end, laid-at-front}
 use Rattle.fields.proofs.Choices.{of-both}
-use Rattle.reader.specs.declared.Form.{Form}
-use Rattle.reader.specs.declared.Memory.{Memory}
+use Rattle.gathering_rules.specs.declared.Form.{Form}
+use Rattle.gathering_rules.specs.declared.Memory.{Memory}
+use Rattle.gathering_rules.specs.Memory.{atStart}
+use Rattle.gathering_rules.proofs.Checking.{found-place}
+use Rattle.delivered.specs.Delivered.{partOf, partHeldBy, sectionOf}
 use Rattle.reader.specs.declared.Reader.{Reader}
 use Rattle.reader.specs.declared.Step.{Step}
 use Rattle.reader.specs.State.{sound, idle, opened}
@@ -20,10 +23,8 @@ use Rattle.reader.specs.Checks.{fromAPlace, fromThePayload}
 use Rattle.reader.specs.Pointer.{unitStart}
 use Rattle.reader.specs.Whole.{whole}
 use Rattle.reader.specs.Tail.{copied, filled, continued, tailFrom, tailOf}
-use Rattle.reader.specs.Head.{atStart, begun, started, headFrom, headOf}
-use Rattle.reader.specs.Delivered.{partOf, partHeldBy, sectionOf}
+use Rattle.reader.specs.Head.{begun, started, headFrom, headOf}
 use Rattle.reader.proofs.Soundness.{open-sound}
-use Rattle.reader.proofs.Checking.{found-place}
 use Rattle.instep.specs.Seen.{seen}
 
 -- the same answer, state, place and delivered bytes, and the same bytes of what is open

@@ -7,17 +7,18 @@ use lib.ListN.{length, take}
 use Rattle.fields.specs.Choice.{if_then_else_}
 use Rattle.answers.specs.Says.{given}
 use Rattle.packet.specs.Payload.{payloadOf}
-use Rattle.reader.specs.declared.Form.{Form}
+use Rattle.gathering_rules.specs.declared.Form.{Form}
+use Rattle.gathering_rules.specs.Checks.{checked}
+use Rattle.gathering_rules.proofs.Checking.{passed}
 use Rattle.reader.specs.declared.Reader.{Reader}
 use Rattle.reader.specs.declared.Step.{Step}
 use Rattle.reader.specs.State.{sound}
 use Rattle.reader.specs.Outcome.{Outcome}
-use Rattle.reader.specs.Checks.{checked}
 use Rattle.reader.specs.Pointer.{unitStart}
 use Rattle.reader.specs.Tail.{tailOf}
 use Rattle.reader.specs.Head.{headFrom, headOf}
 use Rattle.reader.specs.Run.{headAfter}
-use Rattle.reader.proofs.Checking.{goes-on, passed}
+use Rattle.reader.proofs.Checking.{goes-on}
 use Rattle.reader.proofs.Keeping.{Keeps, tail-keeps, head-keeps}
 use Rattle.instep.specs.Seen.{Seen, seen, seenOver, seenFromHead, tailBehind}
 use Rattle.instep.proofs.Forms.{history-kept, tail-form}

@@ -7,17 +7,18 @@ use mathlib.Core.List.{List, [], _∷_}
 use lib.ListN.{length, drop}
 use Rattle.fields.specs.Choice.{if_then_else_, _is_}
 use Rattle.fields.proofs.Choices.{of-both}
-use Rattle.reader.specs.declared.Form.{Form}
-use Rattle.reader.specs.declared.Memory.{Memory}
-use Rattle.reader.specs.declared.Place.{Place}
+use Rattle.gathering_rules.specs.declared.Form.{Form}
+use Rattle.gathering_rules.specs.declared.Memory.{Memory}
+use Rattle.gathering_rules.specs.Memory.{noMemory, soundMemory, atStart}
+use Rattle.delivered.specs.declared.Place.{Place}
 use Rattle.reader.specs.declared.Reader.{Reader}
 use Rattle.reader.specs.declared.Step.{Step}
-use Rattle.reader.specs.State.{noMemory, soundMemory, sound, fresh}
+use Rattle.reader.specs.State.{sound, fresh}
 use Rattle.reader.specs.Outcome.{Outcome}
 use Rattle.reader.specs.Checks.{fromAPlace, fromThePayload}
 use Rattle.reader.specs.Whole.{whole}
 use Rattle.reader.specs.Tail.{continued, tailFrom, tailOf}
-use Rattle.reader.specs.Head.{atStart, begun, started, headFrom, headOf}
+use Rattle.reader.specs.Head.{begun, started, headFrom, headOf}
 use Rattle.reader.specs.Run.{Left, after, worked}
 use Rattle.reader.proofs.Keeping.{memory-sound, fresh-sound, tail-keeps, head-keeps}
 

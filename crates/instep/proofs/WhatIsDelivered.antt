@@ -16,22 +16,26 @@ use Rattle.packet.specs.Payload.{startingAt, payloadBehind, payloadOf}
 use Rattle.mpegts_crc.specs.Crc.{crcOf}
 use Rattle.psi.specs.Header.{wanted}
 use Rattle.psi.proofs.Sections.{wanted-by-front}
-use Rattle.reader.specs.declared.Form.{Form}
-use Rattle.reader.specs.declared.Memory.{Memory}
-use Rattle.reader.specs.declared.Place.{Place}
+use Rattle.gathering_rules.specs.declared.Form.{Form}
+use Rattle.gathering_rules.specs.declared.Memory.{Memory}
+use Rattle.gathering_rules.specs.Memory.{atStart}
+use Rattle.gathering_rules.specs.Checks.{checked}
+use Rattle.gathering_rules.specs.Start.{leastHeld, startRefusal}
+use Rattle.gathering_rules.specs.Verdict.{crcVerdict, verdict}
+use Rattle.gathering_rules.proofs.Checking.{found-place}
+use Rattle.delivered.specs.declared.Place.{Place}
+use Rattle.delivered.specs.Delivered.{partOf, partHeldBy, sectionOf}
 use Rattle.reader.specs.declared.Reader.{Reader}
 use Rattle.reader.specs.declared.Step.{Step}
-use Rattle.reader.specs.State.{leastHeld, sound, idle, fresh}
+use Rattle.reader.specs.State.{sound, idle, fresh}
 use Rattle.reader.specs.Outcome.{Outcome, outcome, answered, inBuffer, inPacket}
-use Rattle.reader.specs.Checks.{checked, fromAPlace, fromThePayload}
+use Rattle.reader.specs.Checks.{fromAPlace, fromThePayload}
 use Rattle.reader.specs.Pointer.{unitStart, pointer, rest}
-use Rattle.reader.specs.Whole.{crcVerdict, verdict, whole}
+use Rattle.reader.specs.Whole.{whole}
 use Rattle.reader.specs.Tail.{copied, filled, continued, tailFrom, tailOf}
-use Rattle.reader.specs.Head.{atStart, startRefusal, begun, started, headFrom, headOf}
-use Rattle.reader.specs.Delivered.{partOf, partHeldBy, sectionOf}
+use Rattle.reader.specs.Head.{begun, started, headFrom, headOf}
 use Rattle.reader.specs.Run.{after, headAfter, worked}
 use Rattle.reader.proofs.Soundness.{open-sound}
-use Rattle.reader.proofs.Checking.{found-place}
 use Rattle.reader.proofs.Keeping.{tail-keeps, head-keeps, fresh-sound}
 use Rattle.instep.specs.Seen.{seen, tailBehind}
 use Rattle.instep.specs.Fed.{hasPayload, payload, mayStart, fromTarget, continuing, fedBehind, fedBy, firstSection}

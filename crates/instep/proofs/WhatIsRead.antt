@@ -14,10 +14,11 @@ use Rattle.answers.specs.declared.Refusal.{Refusal}
 use Rattle.answers.proofs.Saying.{same-values, given-is-not-refused}
 use Rattle.packet.specs.Header.{ofAPacket}
 use Rattle.packet.specs.Payload.{startingAt, payloadBehind}
+use Rattle.gathering_rules.specs.Checks.{checked}
 use Rattle.reader.specs.declared.Reader.{Reader}
 use Rattle.reader.specs.State.{sound}
 use Rattle.reader.specs.Outcome.{Outcome}
-use Rattle.reader.specs.Checks.{checked, fromAPlace, fromThePayload}
+use Rattle.reader.specs.Checks.{fromAPlace, fromThePayload}
 use Rattle.reader.specs.Pointer.{pointer}
 use Rattle.reader.specs.Tail.{tailFrom, tailOf}
 use Rattle.reader.specs.Head.{headFrom, headOf}

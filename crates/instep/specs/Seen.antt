@@ -1,13 +1,13 @@
 -- What a host sees of a reader.
 use Prim.Native.Nat.{ℕ}
 use mathlib.Core.List.{List, [], _∷_}
-use Rattle.reader.specs.declared.Form.{Form}
+use Rattle.gathering_rules.specs.declared.Form.{Form}
+use Rattle.delivered.specs.Delivered.{sectionOf}
 use Rattle.reader.specs.declared.Reader.{Reader}
 use Rattle.reader.specs.declared.Step.{Step}
 use Rattle.reader.specs.State.{fresh}
 use Rattle.reader.specs.Outcome.{Outcome}
 use Rattle.reader.specs.Tail.{tailOf}
-use Rattle.reader.specs.Delivered.{sectionOf}
 use Rattle.reader.specs.Run.{after, headAfter}
 
 -- of a step: "all answers, states and delivered bytes", the place with them

@@ -1,75 +1,25 @@
--- What the checks before a step say: of a place that is found, and of a refusal. Assumes nothing.
-use Prim.Native.Nat.{ℕ, _<_}
-use mathlib.Core.Path.{_≡_, refl, sym, ap, _∙_, subst}
-use mathlib.Core.Bool.{Bool, true}
+-- How a step goes on, by the answer to its checks. Assumes nothing.
+use Prim.Native.Nat.{ℕ}
+use mathlib.Core.Path.{_≡_, refl, sym, ap, _∙_}
+use mathlib.Core.Bool.{Bool}
 use mathlib.Core.List.{List}
 use lib.ListN.{length}
-use borrow.Author.Tests.{eqb-true, ne-eqb, ltb-true}
-use Rattle.fields.specs.Choice.{if_then_else_, _is_}
-use Rattle.fields.proofs.Choices.{test-fails, first-chosen, either-way}
+use borrow.Author.Tests.{ne-eqb}
+use Rattle.fields.specs.Choice.{if_then_else_}
+use Rattle.fields.proofs.Choices.{test-fails}
 use Rattle.answers.specs.Says.{given, refused}
 use Rattle.answers.specs.Refusals.{numberOf}
 use Rattle.answers.specs.declared.Refusal.{Refusal}
-use Rattle.answers.proofs.Saying.{given-is-not-refused, same-values}
 use Rattle.answers.proofs.RefusalNumbers.{no-refusal-is-0}
-use Rattle.packet.specs.Header.{ofAPacket}
-use Rattle.packet.specs.Payload.{payloadSays, payloadBehind, startingAt}
+use Rattle.packet.specs.Payload.{payloadSays}
 use Rattle.packet.specs.declared.Payload.{Payload}
+use Rattle.gathering_rules.specs.Checks.{checked}
+use Rattle.gathering_rules.proofs.Checking.{Passed, passed}
 use Rattle.reader.specs.State.{sound}
 use Rattle.reader.specs.Outcome.{Outcome, outcome, answered}
-use Rattle.reader.specs.Checks.{checked, fromAPlace, fromThePayload}
+use Rattle.reader.specs.Checks.{fromAPlace, fromThePayload}
 use Rattle.reader.specs.declared.Reader.{Reader}
 use Rattle.reader.specs.declared.Step.{Step}
-
--- ---- what is known where a place is found
-
--- a payload that starts there starts within the packet
-starts-within : (n start : ℕ) → startingAt n ≡ given start → start < 188
-unfolding startingAt
-starts-within n start e =
-    either-way _ _ _ _ e (λ below f. subst (λ (m : ℕ). m < 188) (same-values f) (ltb-true n 188 below))
-    (λ notBelow f. absurd (either-way _ _ _ _ f
-    (λ same g. given-is-not-refused Refusal.PayloadEmpty (sym g))
-    (λ above g. given-is-not-refused Refusal.PayloadBeyond (sym g))))
-
-payload-within : (packet : List ℕ) (start : ℕ) → payloadBehind packet ≡ given start → start < 188
-unfolding payloadBehind
-payload-within packet start e =
-    either-way _ _ _ _ e (λ only f. starts-within 4 start f)
-    (λ notOnly f. either-way _ _ _ _ f (λ both g. starts-within _ start g)
-    (λ none g. absurd (given-is-not-refused Refusal.NoPayload (sym g))))
-
--- what is known where a place is found
-pub record Passed (isSound : Bool) (packet : List ℕ) (buffer start : ℕ) : Type 0 where
-  pub sized : length packet ≡ 188
-  pub lent : buffer ≡ 1024
-  pub soundState : isSound ≡ true
-  pub within : start < 188
-
-pub passed : (isSound : Bool) (packet : List ℕ) (buffer start : ℕ) → given start ≡ checked isSound packet buffer
-    → Passed isSound packet buffer start
-unfolding checked ofAPacket
-passed isSound packet buffer start e =
-    let size = first-chosen _ _ _ _ (sym e) (λ f. given-is-not-refused Refusal.PacketSize (sym f)) in
-    let sync = first-chosen _ _ _ _ (size .1) (λ f. given-is-not-refused Refusal.NoSyncByte (sym f)) in
-    let lent = first-chosen _ _ _ _ (sync .1) (λ f. given-is-not-refused Refusal.BufferSize (sym f)) in
-    let state = first-chosen _ _ _ _ (lent .1) (λ f. given-is-not-refused Refusal.StateNotSound (sym f)) in
-    record {
-      sized = eqb-true _ _ (size .0);
-      lent = eqb-true _ _
-          (lent .0);
-      soundState = state .0;
-      within = payload-within packet start (state .1);
-    }
-
--- a place that is found
-pub found-place : (isSound : Bool) (packet : List ℕ) (buffer : ℕ) → (checked isSound packet buffer .number is 0) ≡ true
-    → Passed isSound packet buffer (checked isSound packet buffer .values)
-found-place isSound packet buffer found =
-    let place = checked isSound packet buffer in
-    passed _ _ _ (place .values) (ap (λ (n : ℕ). record { number = n; values = place .values }) (sym (eqb-true _ _ found)))
-
--- ---- a step, by the answer to its checks
 
 module _ (reader : Reader) (packet buffer : List ℕ) where
   -- it goes on from a place that is found

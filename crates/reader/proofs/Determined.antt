@@ -1,17 +1,12 @@
 -- Any two answers that a contract allows are equal, and so is what the buffer holds after them. Assumes nothing.
 use mathlib.Core.Path.{sym, ap, _∙_}
 use denote.Ref.{now}
-use Rattle.fields.specs.Determines.{Determines, DeterminesBoth, DeterminesBytes}
+use Rattle.fields.specs.Determines.{Determines, DeterminesBoth}
 use Rattle.reader.specs.Outcome.{Outcome}
-use Rattle.reader.proofs.Memory.none.Reads as none
 use Rattle.reader.proofs.Reader.fresh.Reads as fresh
 use Rattle.reader.proofs.Reader.is_sound.Reads as is-sound
 use Rattle.reader.proofs.Reader.tail.Reads as tail
 use Rattle.reader.proofs.Reader.head.Reads as head
-use Rattle.reader.proofs.section.Reads as section
-
-pub none-determined : Determines none.Post
-none-determined κs arguments x y x-exit y-exit p q = p ∙ sym q
 
 pub fresh-determined : Determines fresh.Post
 fresh-determined κs arguments x y x-exit y-exit p q = p ∙ sym q
@@ -26,7 +21,3 @@ tail-determined κs arguments x y x-exit y-exit p q =
 pub head-determined : DeterminesBoth head.Post (λ κs exit. now (exit .1 .1 .0))
 head-determined κs arguments x y x-exit y-exit p q =
     (ap (λ (left : Outcome). left .step) (p ∙ sym q), ap (λ (left : Outcome). left .buffer) (p ∙ sym q))
-
--- the part that is read is lent: its bytes are what is equal
-pub section-determined : DeterminesBytes section.Post (λ κs part. now part)
-section-determined κs arguments x y x-exit y-exit p q = p ∙ sym q

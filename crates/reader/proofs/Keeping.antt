@@ -12,23 +12,27 @@ use Rattle.fields.proofs.LaidBytes.{laid-length}
 use Rattle.answers.specs.Says.{Says}
 use Rattle.packet.specs.Header.{ofAPacket}
 use Rattle.packet.specs.Payload.{startingAt, payloadBehind}
-use Rattle.psi.specs.Header.{wanted, versionNumber}
-use Rattle.psi.proofs.Sections.{version-number-below-32}
-use Rattle.reader.specs.State.{leastHeld, noMemory, soundMemory, soundCounts, sound, idle, opened, fresh}
+use Rattle.psi.specs.Header.{wanted}
+use Rattle.gathering_rules.specs.declared.Form.{Form}
+use Rattle.gathering_rules.specs.declared.Memory.{Memory}
+use Rattle.gathering_rules.specs.Memory.{noMemory, soundMemory, atStart}
+use Rattle.gathering_rules.specs.Checks.{checked}
+use Rattle.gathering_rules.specs.Start.{leastHeld, startRefusal}
+use Rattle.gathering_rules.specs.Verdict.{crcVerdict, verdict}
+use Rattle.gathering_rules.proofs.Checking.{found-place}
+use Rattle.gathering_rules.proofs.Starts.{Starts, starts}
+use Rattle.gathering_rules.proofs.Remembering.{nothing-remembered-sound, at-start-sound, after-refusal-sound}
+use Rattle.reader.specs.State.{soundCounts, sound, idle, opened, fresh}
 use Rattle.reader.specs.Outcome.{Outcome, outcome, answered}
-use Rattle.reader.specs.Checks.{checked, fromAPlace, fromThePayload}
-use Rattle.reader.specs.Whole.{crcVerdict, verdict, whole}
+use Rattle.reader.specs.Checks.{fromAPlace, fromThePayload}
+use Rattle.reader.specs.Whole.{whole}
 use Rattle.reader.specs.Tail.{copied, filled, continued, tailFrom, tailOf}
-use Rattle.reader.specs.Head.{atStart, startRefusal, begun, afterRefusal, started, headFrom, headOf}
+use Rattle.reader.specs.Head.{begun, started, headFrom, headOf}
 use Rattle.reader.specs.Run.{NotTheHosts, EveryStep, Worked, worked, run}
-use Rattle.reader.specs.declared.Form.{Form}
-use Rattle.reader.specs.declared.Memory.{Memory}
-use Rattle.reader.specs.declared.Place.{Place}
+use Rattle.delivered.specs.declared.Place.{Place}
 use Rattle.reader.specs.declared.Reader.{Reader}
 use Rattle.reader.specs.declared.Step.{Step}
 use Rattle.reader.proofs.Soundness.{open-sound}
-use Rattle.reader.proofs.Checking.{found-place}
-use Rattle.reader.proofs.Starts.{Starts, starts}
 
 another : (n : ℕ) → (n is 5) ≡ false → (n is 25) ≡ false → NotTheHosts n
 another n e f = record { not5 = eqb-false n 5 e; not25 = eqb-false n 25 f }
@@ -44,10 +48,6 @@ pub record Keeps (left : Outcome) : Type 0 where
 pub memory-sound : (reader : Reader) → sound reader ≡ true → soundMemory (reader .form) (reader .memory) ≡ true
 unfolding sound
 memory-sound reader h = and-holds _ _ h .0
-
-pub nothing-remembered-sound : (form : Form) → soundMemory form noMemory ≡ true
-unfolding soundMemory if_then_else_
-nothing-remembered-sound form = refl
 
 pub idle-sound : (form : Form) (memory : Memory) → soundMemory form memory ≡ true → sound (idle form memory) ≡ true
 unfolding sound soundCounts if_then_else_
@@ -127,22 +127,6 @@ module _ (reader : Reader) (buffer : List ℕ) (isSound : sound reader ≡ true)
 
 -- ---- the head
 
-at-start-sound : (form : Form) (memory : Memory) (bytes : List ℕ) → soundMemory form memory ≡ true
-    → leastHeld form ≤ length bytes
-    → soundMemory form (atStart form memory bytes) ≡ true
-unfolding atStart soundMemory if_then_else_
-at-start-sound Form.Compact memory bytes h l = h
-at-start-sound Form.Full memory bytes h l = h
-at-start-sound Form.Once memory bytes h l =
-    let below = version-number-below-32 bytes l in
-    let most : versionNumber bytes ≤ 31 = omega arith in
-    le-leb _ _ most
-
-after-refusal-sound : (form : Form) (n : ℕ) (memory : Memory) → soundMemory form memory ≡ true
-    → soundMemory form (afterRefusal n memory) ≡ true
-after-refusal-sound form n memory h =
-    of-both (λ (m : Memory). soundMemory form m ≡ true) _ _ _ (nothing-remembered-sound form) h
-
 start-refusal-answers : (form : Form) (memory : Memory) (bytes : List ℕ) → NotTheHosts (startRefusal form memory bytes)
 unfolding startRefusal
 start-refusal-answers form memory bytes =
@@ -172,7 +156,7 @@ module _ (form : Form) (memory : Memory) (bytes : List ℕ) (at : ℕ) (buffer :
   started-keeps =
       of-either Keeps _ _ _
       (λ none. let s = starts form memory bytes (eqb-true _ _ none) in begun-keeps s
-      (at-start-sound form memory bytes m (s .least)))
+      (at-start-sound form memory bytes m))
       (λ refusal. record {
         soundState = idle-sound form _ (after-refusal-sound form (startRefusal form memory bytes) memory m);
         lent = lent;

@@ -1,10 +1,8 @@
-pub mod Parts
 pub mod Soundness
 pub mod Continuing
 pub mod Checking
 pub mod Pointers
 pub mod Tails
-pub mod Starts
 pub mod Heads
 pub mod Keeping
 pub mod Determined

@@ -4,7 +4,8 @@ use mathlib.Core.Path.{_≡_, sym, _∙_}
 use mathlib.Core.Bool.{true}
 use borrow.Author.Tests.{leb-true, ltb-true}
 use Rattle.fields.proofs.Choices.{and-holds, test-holds}
-use Rattle.reader.specs.State.{leastHeld, soundCounts, sound}
+use Rattle.gathering_rules.specs.Start.{leastHeld}
+use Rattle.reader.specs.State.{soundCounts, sound}
 use Rattle.reader.specs.declared.Reader.{Reader}
 
 -- an open state that is sound

@@ -10,11 +10,14 @@ use Rattle.fields.specs.SyntaxTable.{offset, width, valueOf}
 use Rattle.packet.specs.Header.{ofAPacket}
 use Rattle.packet.specs.Payload.{startingAt, payloadBehind}
 use Rattle.packet.specs.Cases.{packetFrom}
-use Rattle.reader.specs.declared.Form.{Form}
-use Rattle.reader.specs.State.{soundMemory, soundCounts, sound, fresh}
-use Rattle.reader.specs.Checks.{checked, fromAPlace, fromThePayload}
+use Rattle.gathering_rules.specs.declared.Form.{Form}
+use Rattle.gathering_rules.specs.Memory.{soundMemory, repeats}
+use Rattle.gathering_rules.specs.Checks.{checked}
+use Rattle.gathering_rules.specs.Start.{startRefusal}
+use Rattle.reader.specs.State.{soundCounts, sound, fresh}
+use Rattle.reader.specs.Checks.{fromAPlace, fromThePayload}
 use Rattle.reader.specs.Tail.{tailFrom, tailOf}
-use Rattle.reader.specs.Head.{repeats, startRefusal, begun, started, headFrom, headOf}
+use Rattle.reader.specs.Head.{begun, started, headFrom, headOf}
 
 abbrev pub tailAnswer : Form → List ℕ → ℕ
 tailAnswer form packet = tailOf (fresh form) packet (replicate 1024 0) .step .answer

@@ -1,51 +1,21 @@
 -- The head step.
 use Prim.Native.Nat.{ℕ, _+_}
-use mathlib.Core.Bool.{Bool, true, false, not}
 use mathlib.Core.List.{List}
 use lib.ListN.{length, take, drop}
-use Rattle.fields.specs.Choice.{if_then_else_, _and_, _is_, _isBelow_, _isAbove_, _isAtMost_}
+use Rattle.fields.specs.Choice.{if_then_else_, _is_, _isAtMost_}
 use Rattle.fields.specs.Laid.{laid}
-use Rattle.answers.specs.Numbers.{nothingForThisStep, bytesKept, pointerBeyondRest, under3Bytes, syntaxIndicator, under8Bytes, lengthAbove1021, versionRepeated}
-use Rattle.psi.specs.Header as section
-use Rattle.psi.specs.Header.{sectionLength, lengthLimit, wanted, versionNumber}
-use Rattle.reader.specs.declared.Form.{Form}
-use Rattle.reader.specs.declared.Memory.{Memory}
+use Rattle.answers.specs.Numbers.{nothingForThisStep, bytesKept, pointerBeyondRest}
+use Rattle.psi.specs.Header.{wanted}
+use Rattle.gathering_rules.specs.declared.Form.{Form}
+use Rattle.gathering_rules.specs.declared.Memory.{Memory}
+use Rattle.gathering_rules.specs.Memory.{atStart, afterRefusal}
+use Rattle.gathering_rules.specs.Start.{startRefusal}
 use Rattle.reader.specs.declared.Reader.{Reader}
-use Rattle.reader.specs.State.{leastHeld, noMemory, idle, opened}
+use Rattle.reader.specs.State.{idle, opened}
 use Rattle.reader.specs.Outcome.{Outcome, outcome, answered, forgotten, inPacket}
 use Rattle.reader.specs.Checks.{fromThePayload}
 use Rattle.reader.specs.Pointer.{unitStart, pointer, pointsBeyond}
 use Rattle.reader.specs.Whole.{whole}
-
--- "FULL and ONCE need it set, COMPACT clear"
-abbrev pub takesSyntax : Form → Bool → Bool
-takesSyntax Form.Compact indicator = not indicator
-takesSyntax Form.Full indicator = indicator
-takesSyntax Form.Once indicator = indicator
-
--- "ONCE and version equal to the remembered one"
-unfoldable pub repeats : Form → Memory → List ℕ → Bool
-repeats Form.Compact memory bytes = false
-repeats Form.Full memory bytes = false
-repeats Form.Once memory bytes = memory .known and memory .version is versionNumber bytes
-
--- "otherwise ONCE remembers this version"
-unfoldable pub atStart : Form → Memory → List ℕ → Memory
-atStart Form.Compact memory bytes = memory
-atStart Form.Full memory bytes = memory
-atStart Form.Once memory bytes = record { known = true; version = versionNumber bytes }
-
--- "From the pointer on: under 3 bytes, 10. Then in this order: syntax indicator .., 11; under 8 bytes (not COMPACT), 12; section_length above 1,021, 13; ONCE
--- and version equal to the remembered one, 14"; 0 where nothing refuses the start
-unfoldable pub startRefusal : Form → Memory → List ℕ → ℕ
-startRefusal form memory bytes =
-    if length bytes isBelow 3 then under3Bytes
-    else if takesSyntax form (section.syntaxIndicator bytes) then
-    if length bytes isBelow leastHeld form then under8Bytes
-    else if sectionLength bytes isAbove lengthLimit then lengthAbove1021
-    else if repeats form memory bytes then versionRepeated
-    else 0
-    else syntaxIndicator
 
 -- "Wanted is 3 plus section_length. If all are here the section is whole, in the packet; else all bytes from the pointer on are copied, 1"
 unfoldable pub begun : Form → Memory → List ℕ → ℕ → List ℕ → Outcome
@@ -53,10 +23,6 @@ begun form memory bytes at buffer =
     if wanted bytes isAtMost length bytes then
     outcome (whole form memory (inPacket at (wanted bytes)) (take (wanted bytes) bytes)) buffer
     else outcome (answered bytesKept (opened form memory (length bytes) (wanted bytes))) (laid buffer 0 bytes)
-
--- what is remembered where a start is refused: 10 forgets it
-abbrev pub afterRefusal : ℕ → Memory → Memory
-afterRefusal refusal memory = if refusal is under3Bytes then noMemory else memory
 
 -- the bytes from the pointer on, which stand at a place of the packet, start a section, or are refused
 unfoldable pub started : Form → Memory → List ℕ → ℕ → List ℕ → Outcome

@@ -5,6 +5,5 @@ pub mod Pointer
 pub mod Whole
 pub mod Tail
 pub mod Head
-pub mod Delivered
 pub mod Run
 pub mod Cases

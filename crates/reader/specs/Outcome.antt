@@ -1,11 +1,12 @@
 -- What a step leaves: its answer, with the state after it and the place of a delivered section, and the bytes of the lent buffer.
 use Prim.Native.Nat.{ℕ}
 use mathlib.Core.List.{List}
-use Rattle.reader.specs.declared.Holder.{Holder}
-use Rattle.reader.specs.declared.Place.{Place}
+use Rattle.gathering_rules.specs.Memory.{noMemory}
+use Rattle.delivered.specs.declared.Holder.{Holder}
+use Rattle.delivered.specs.declared.Place.{Place}
 use Rattle.reader.specs.declared.Reader.{Reader}
 use Rattle.reader.specs.declared.Step.{Step}
-use Rattle.reader.specs.State.{idle, noMemory}
+use Rattle.reader.specs.State.{idle}
 
 pub record Outcome : Type 0 where
   pub step : Step

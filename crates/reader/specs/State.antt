@@ -2,34 +2,12 @@
 use Prim.Native.Nat.{ℕ}
 use mathlib.Core.Bool.{Bool, true, false}
 use Rattle.fields.specs.Choice.{if_then_else_, _and_, _is_, _isBelow_, _isAtMost_}
-use Rattle.reader.specs.declared.Form.{Form}
-use Rattle.reader.specs.declared.Memory.{Memory}
+use Rattle.gathering_rules.specs.declared.Form.{Form}
+use Rattle.gathering_rules.specs.declared.Memory.{Memory}
+use Rattle.gathering_rules.specs.Memory.{noMemory, soundMemory}
+use Rattle.gathering_rules.specs.Checks.{bufferLength}
+use Rattle.gathering_rules.specs.Start.{leastHeld}
 use Rattle.reader.specs.declared.Reader.{Reader}
-
--- "The lent buffer has 1,024 bytes"
-abbrev pub bufferLength : ℕ
-bufferLength = 1024
-
--- the bytes without which a section is not kept: the table header's eight, "(COMPACT: 3)"
-abbrev pub leastHeld : Form → ℕ
-leastHeld Form.Compact = 3
-leastHeld Form.Full = 8
-leastHeld Form.Once = 8
-
--- nothing is remembered
-abbrev pub noMemory : Memory
-noMemory = record { known = false; version = 0 }
-
--- "COMPACT and FULL remember no version, and a remembered one is at most 31"
-abbrev pub mayRemember : Form → ℕ → Bool
-mayRemember Form.Compact version = false
-mayRemember Form.Full version = false
-mayRemember Form.Once version = version isAtMost 31
-
-unfoldable pub soundMemory : Form → Memory → Bool
-soundMemory form memory =
-    if memory .known then mayRemember form (memory .version)
-    else memory .version is 0
 
 -- "An idle state is sound if both counts are zero. .. An open state is sound if held is at least 8 (COMPACT: 3), held is below wanted, and wanted is
 -- at most 1,024"

@@ -4,37 +4,28 @@ ghost use mathlib.Core.Bool.{true};
 ghost use Prim.Native.Nat.{_+_, _≤_, _<_};
 ghost use lib.ListN.{length, drop};
 ghost use Rattle.fields.specs.Laid.{laid};
-ghost use Rattle.packet.specs.Payload.{payloadSays};
-ghost use Rattle.reader.specs.State.{leastHeld, noMemory, soundMemory, soundCounts, sound, idle, opened, fresh};
-ghost use Rattle.reader.specs.Outcome.{outcome, inBuffer, inPacket, nowhere, answered, forgotten};
-ghost use Rattle.reader.specs.Checks.{checked};
+ghost use Rattle.psi.specs.Header.{wanted};
+ghost use Rattle.reader.specs.State.{soundCounts, sound, idle, opened, fresh};
+ghost use Rattle.reader.specs.Outcome.{outcome, inBuffer, inPacket, answered};
 ghost use Rattle.reader.specs.Pointer.{pointerOf};
-ghost use Rattle.reader.specs.Whole.{crcVerdict, verdict, whole};
-ghost use Rattle.psi.specs.Header.{wanted, versionNumber};
+ghost use Rattle.reader.specs.Whole.{whole};
 ghost use Rattle.reader.specs.Tail.{continued, tailFrom, tailOf};
-ghost use Rattle.reader.specs.Head.{takesSyntax, repeats, atStart, startRefusal, begun, afterRefusal, started, headFrom, headOf};
-ghost use Rattle.reader.specs.Delivered.{partOf, sectionOf};
+ghost use Rattle.reader.specs.Head.{begun, started, headFrom, headOf};
 use answers::Answer;
-use answers::Refusal;
+pub use delivered::Holder;
+pub use delivered::Place;
+pub use delivered::section;
 use fields::word;
-use mpegts_crc::sum32;
-use packet::HeaderAnswer;
-use packet::Packet;
+use gathering_rules::Buffer;
+pub use gathering_rules::Form;
+pub use gathering_rules::Memory;
+use gathering_rules::after_refusal;
+use gathering_rules::checked;
+use gathering_rules::least_held;
+use gathering_rules::start_refusal;
+use gathering_rules::verdict;
 use packet::Payload;
 use psi::Section;
-use psi::TableHeaderAnswer;
-
-pub enum Form {
-    Compact,
-    Full,
-    Once,
-}
-
-// What ONCE remembers: a version, or none (then the number is 0).
-pub struct Memory {
-    pub known: bool,
-    pub version: u8,
-}
 
 // The state. Counts of two bytes keep it, and a step's answer, in registers.
 pub struct Reader {
@@ -43,19 +34,6 @@ pub struct Reader {
     pub is_open: bool,
     pub held: u16,
     pub wanted: u16,
-}
-
-pub enum Holder {
-    Nowhere,
-    Packet,
-    Buffer,
-}
-
-// Where a delivered section lies.
-pub struct Place {
-    pub holder: Holder,
-    pub start: u16,
-    pub len: u16,
 }
 
 // A step's answer: its number, the state after it, and the place of a delivered section.
@@ -72,25 +50,23 @@ pub enum Pointer {
     BeyondRest,
 }
 
-impl Place {
-    fn in_packet(start: u16, len: u16) -> Self
-        ensures { λ r. ⌜ r ≡ inPacket start len ⌝ }
-    {
-        Place {
-            holder: Holder::Packet,
-            start,
-            len,
-        }
+fn in_packet(start: u16, len: u16) -> Place
+    ensures { λ r. ⌜ r ≡ inPacket start len ⌝ }
+{
+    Place {
+        holder: Holder::Packet,
+        start,
+        len,
     }
+}
 
-    fn in_buffer(len: u16) -> Self
-        ensures { λ r. ⌜ r ≡ inBuffer len ⌝ }
-    {
-        Place {
-            holder: Holder::Buffer,
-            start: 0,
-            len,
-        }
+fn in_buffer(len: u16) -> Place
+    ensures { λ r. ⌜ r ≡ inBuffer len ⌝ }
+{
+    Place {
+        holder: Holder::Buffer,
+        start: 0,
+        len,
     }
 }
 
@@ -111,76 +87,9 @@ impl Step {
     }
 }
 
-fn least_held(form: Form) -> u16
-    ensures { λ r. ⌜ r ≡ leastHeld form ⌝ }
-{
-    match form {
-        Form::Compact => 3,
-        Form::Full => 8,
-        Form::Once => 8,
-    }
-}
-
-impl Memory {
-    pub fn none() -> Self
-        ensures { λ r. ⌜ r ≡ noMemory ⌝ }
-    {
-        Memory {
-            known: false,
-            version: 0,
-        }
-    }
-
-    // Whether a section that starts with these bytes repeats what is remembered.
-    fn repeats(self, form: Form, bytes: &[u8]) -> bool
-        requires { ⌜ leastHeld form ≤ length (now bytes) ⌝ }
-        ensures { λ r. ⌜ r ≡ repeats form self (now (bytes .entry)) ⌝ }
-    {
-        match form {
-            Form::Compact => false,
-            Form::Full => false,
-            Form::Once => {
-                if self.known {
-                    return self.version == version(bytes);
-                }
-                false
-            }
-        }
-    }
-
-    // What is remembered once a section has started with these bytes.
-    fn at_start(self, form: Form, bytes: &[u8]) -> Memory
-        requires { ⌜ leastHeld form ≤ length (now bytes) ⌝ }
-        ensures { λ r. ⌜ r ≡ atStart form self (now (bytes .entry)) ⌝ }
-    {
-        match form {
-            Form::Compact => self,
-            Form::Full => self,
-            Form::Once => Memory {
-                known: true,
-                version: version(bytes),
-            },
-        }
-    }
-
-    fn is_sound(self, form: Form) -> bool
-        ensures { λ r. ⌜ r ≡ soundMemory form self ⌝ }
-    {
-        if self.known {
-            match form {
-                Form::Compact => false,
-                Form::Full => false,
-                Form::Once => self.version <= 31,
-            }
-        } else {
-            self.version == 0
-        }
-    }
-}
-
 impl Reader {
     // The lent buffer's length.
-    pub const BUFFER_SIZE: usize = 1024;
+    pub const BUFFER_SIZE: usize = Buffer::SIZE;
 
     fn idle(form: Form, memory: Memory) -> Self
         ensures { λ r. ⌜ r ≡ idle form memory ⌝ }
@@ -243,24 +152,6 @@ impl Reader {
     }
 }
 
-// What both steps test first: the payload's place, or 3, 4, 5, 25, 6, 7, 8.
-fn checked(is_sound: bool, packet: &[u8], buffer: usize) -> Payload
-    ensures { λ r. ⌜ payloadSays r ≡ checked «is_sound» (now (packet .entry)) buffer ⌝ }
-{
-    match Packet::header(packet) {
-        HeaderAnswer::Is(_) => {
-            if buffer != Reader::BUFFER_SIZE {
-                return Payload::Refused(Refusal::BufferSize);
-            }
-            if is_sound {
-                return Packet::payload(packet);
-            }
-            Payload::Refused(Refusal::StateNotSound)
-        }
-        HeaderAnswer::Refused(refusal) => Payload::Refused(refusal),
-    }
-}
-
 // What the pointer says in a packet whose payload starts there.
 fn pointer_at(packet: &[u8], start: usize) -> Pointer
     requires { ⌜ (length (now packet) ≡ 188) × (start < 188) ⌝ }
@@ -288,29 +179,6 @@ fn lay(buffer: &mut [u8], at: usize, bytes: &[u8])
     while i < bytes.len() {
         buffer[at + i] = bytes[i];
         i += 1;
-    }
-}
-
-// 2, or why a whole section is refused: 16, 17.
-fn crc_verdict(section: &[u8]) -> u8
-    ensures { λ r. ⌜ r ≡ crcVerdict (now (section .entry)) ⌝ }
-{
-    if section.len() < 12 {
-        return Answer::SECTION_UNDER_12;
-    }
-    if sum32(section) == 0 {
-        return Answer::DELIVERED;
-    }
-    Answer::CRC_NOT_ZERO
-}
-
-fn verdict(form: Form, section: &[u8]) -> u8
-    ensures { λ r. ⌜ r ≡ verdict form (now (section .entry)) ⌝ }
-{
-    match form {
-        Form::Compact => Answer::DELIVERED,
-        Form::Full => crc_verdict(section),
-        Form::Once => crc_verdict(section),
     }
 }
 
@@ -352,12 +220,7 @@ impl Reader {
             );
         }
         lay(buffer, held, &bytes[..missing]);
-        whole(
-            form,
-            memory,
-            Place::in_buffer(self.wanted),
-            &buffer[..wanted],
-        )
+        whole(form, memory, in_buffer(self.wanted), &buffer[..wanted])
     }
 
     // The tail step on a payload that starts there.
@@ -394,27 +257,6 @@ impl Reader {
     }
 }
 
-fn takes_syntax(form: Form, indicator: bool) -> bool
-    ensures { λ r. ⌜ r ≡ takesSyntax form indicator ⌝ }
-{
-    match form {
-        Form::Compact => !indicator,
-        Form::Full => indicator,
-        Form::Once => indicator,
-    }
-}
-
-// The version of a section that has its table header.
-fn version(section: &[u8]) -> u8
-    requires { ⌜ 8 ≤ length (now section) ⌝ }
-    ensures { λ r. ⌜ r ≡ versionNumber (now (section .entry)) ⌝ }
-{
-    match Section::table_header(section) {
-        TableHeaderAnswer::Is(header) => header.version,
-        TableHeaderAnswer::Refused(_) => 0,
-    }
-}
-
 // How many bytes a section has that has its header.
 fn wanted(section: &[u8]) -> u16
     requires { ⌜ 3 ≤ length (now section) ⌝ }
@@ -426,38 +268,6 @@ fn wanted(section: &[u8]) -> u16
     }
 }
 
-// 10 to 14, or 0 where a section starts with these bytes.
-fn start_refusal(form: Form, memory: Memory, bytes: &[u8]) -> u8
-    ensures { λ r. ⌜ r ≡ startRefusal form memory (now (bytes .entry)) ⌝ }
-{
-    let psi::HeaderAnswer::Is(header) = Section::header(bytes) else {
-        return Answer::UNDER_3_BYTES;
-    };
-    if takes_syntax(form, header.section_syntax_indicator) {
-        if bytes.len() < least_held(form) as usize {
-            return Answer::UNDER_8_BYTES;
-        }
-        if Section::LENGTH_LIMIT < header.section_length {
-            return Answer::LENGTH_ABOVE_1021;
-        }
-        if memory.repeats(form, bytes) {
-            return Answer::VERSION_REPEATED;
-        }
-        return 0;
-    }
-    Answer::SYNTAX_INDICATOR
-}
-
-// What is remembered where a start is refused.
-fn after_refusal(refusal: u8, memory: Memory) -> Memory
-    ensures { λ r. ⌜ r ≡ afterRefusal refusal memory ⌝ }
-{
-    if refusal == Answer::UNDER_3_BYTES {
-        return Memory::none();
-    }
-    memory
-}
-
 // A section starts with these bytes, which stand at `at` in the packet: it is whole, or all of them are kept.
 fn begun(form: Form, memory: Memory, bytes: &[u8], at: usize, buffer: &mut [u8]) -> Step
     requires { ⌜ (3 ≤ length (now bytes)) × (length (now bytes) ≤ 188) × (at ≤ 188) × (length (now buffer) ≡ 1024) ⌝ }
@@ -466,12 +276,7 @@ fn begun(form: Form, memory: Memory, bytes: &[u8], at: usize, buffer: &mut [u8])
     let size = wanted(bytes);
     let end = size as usize;
     if end <= bytes.len() {
-        return whole(
-            form,
-            memory,
-            Place::in_packet(at as u16, size),
-            &bytes[..end],
-        );
+        return whole(form, memory, in_packet(at as u16, size), &bytes[..end]);
     }
     lay(buffer, 0, bytes);
     Step::answered(
@@ -521,36 +326,5 @@ impl Reader {
             return Step::answered(payload.number(), self);
         };
         self.head_from(packet, start, buffer)
-    }
-}
-
-// The part of the bytes that starts there, of that length; empty where it does not lie within.
-fn part(bytes: &[u8], start: usize, len: usize) -> &[u8]
-    ensures { λ r. ⌜ now r ≡ partOf (now (bytes .entry)) start len ⌝ }
-{
-    if bytes.len() < start {
-        return &bytes[..0];
-    }
-    if bytes.len() - start < len {
-        return &bytes[..0];
-    }
-    let end = start + len;
-    &bytes[start..end]
-}
-
-// A delivered section, as a part of the packet or of the buffer; empty for any other answer, and for a place that does not lie within.
-pub fn section<'a>(packet: &'a [u8], buffer: &'a [u8], answer: u8, place: Place) -> &'a [u8]
-    ensures { λ r. ⌜ now r ≡ sectionOf (now (packet .entry)) (now (buffer .entry)) answer place ⌝ }
-{
-    if answer != Answer::DELIVERED {
-        return &packet[..0];
-    }
-    let start = place.start as usize;
-    let len = place.len as usize;
-    let holder = place.holder;
-    match holder {
-        Holder::Nowhere => &packet[..0],
-        Holder::Packet => part(packet, start, len),
-        Holder::Buffer => part(buffer, start, len),
     }
 }

@@ -4,7 +4,7 @@ use borrow.Author.Tests.{eq-eqb, ne-eqb}
 use Rattle.fields.specs.Choice.{if_then_else_}
 use Rattle.reader.specs.Outcome.{answered}
 use Rattle.reader.specs.Head.{started}
-use Rattle.reader.proofs.Starts.{starts}
+use Rattle.gathering_rules.proofs.Starts.{starts}
 use borrow.Author.Needs.{needs}
 use Rattle.reader.proofs.started.Statement.{statement}
 use Rattle.reader.proofs.started.Tie as tie
@@ -13,7 +13,7 @@ start-refusal-requires : tie.Need-start-refusal-requires
 start-refusal-requires c κs = search needs
 
 at-start-requires : tie.Need-at-start-requires
-at-start-requires c κs = starts _ _ _ (sym (c .before .start-refusal .ensures) ∙ c .if1 .taken) .least
+at-start-requires c κs = search needs
 
 begun-requires : tie.Need-begun-requires
 begun-requires c κs = (

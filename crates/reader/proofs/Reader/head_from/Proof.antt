@@ -7,7 +7,7 @@ use lib.ListN.{length-drop}
 use denote.Ref.{now}
 use Rattle.reader.specs.Outcome.{outcome, answered}
 use Rattle.reader.specs.Head.{started}
-use Rattle.reader.proofs.Parts.{part-to-end}
+use Rattle.delivered.proofs.Parts.{part-to-end}
 use Rattle.reader.proofs.Pointers.{no-unit-start, points-to, points-beyond, target-within}
 use Rattle.reader.proofs.Heads.{head-without-unit-start, head-at, head-beyond}
 use borrow.Author.Needs.{needs}

@@ -6,7 +6,7 @@ use native.Mathlib.Omega.{arith}
 use denote.Ref.{now}
 use Rattle.reader.specs.Outcome.{outcome, answered}
 use Rattle.reader.specs.Tail.{continued}
-use Rattle.reader.proofs.Parts.{part-to-end, part-of}
+use Rattle.delivered.proofs.Parts.{part-to-end, part-of}
 use Rattle.reader.proofs.Pointers.{no-unit-start, points-to, points-beyond, end-within}
 use Rattle.reader.proofs.Tails.{tail-without-unit-start, tail-at-0, tail-up-to, tail-beyond}
 use borrow.Author.Needs.{needs}

@@ -1,0 +1,4 @@
+pub mod Checking
+pub mod Starts
+pub mod Remembering
+pub mod Determined

@@ -1,0 +1,22 @@
+-- What every step tests first.
+use Prim.Native.Nat.{ℕ}
+use mathlib.Core.Bool.{Bool}
+use mathlib.Core.List.{List}
+use Rattle.fields.specs.Choice.{if_then_else_, _is_}
+use Rattle.answers.specs.Numbers.{bufferSize, stateNotSound}
+use Rattle.answers.specs.Says.{Says, refused}
+use Rattle.packet.specs.Header.{ofAPacket}
+use Rattle.packet.specs.Payload.{payloadBehind}
+
+-- "The lent buffer has 1,024 bytes"
+abbrev pub bufferLength : ℕ
+bufferLength = 1024
+
+-- "Checks before either step, in order: 3, 4, 5, 25, then 6, 7, 8": where the payload starts, or the refusal
+unfoldable pub checked : Bool → List ℕ → ℕ → Says ℕ
+checked isSound packet buffer =
+    ofAPacket packet 0
+    (if buffer is bufferLength then
+    if isSound then payloadBehind packet
+    else refused stateNotSound 0
+    else refused bufferSize 0)

@@ -1,0 +1,4 @@
+pub mod Memory
+pub mod Checks
+pub mod Start
+pub mod Verdict
