@@ -12,7 +12,7 @@ use Rattle.reader.specs.State.{fresh}
 use Rattle.reader.specs.Outcome.{Outcome}
 use Rattle.capi.specs.Flags.{flag}
 use Rattle.capi.specs.Gathering.{formNumber, formOf, namesForm, namesReader, readerForC, readerFromC, freshForC}
-use Rattle.capi.specs.Gathering.{OutcomeForC, outcomeForC, answeredForC, workedForC}
+use Rattle.capi.specs.Gathering.{toldToC, workedForC}
 
 -- ---- number by number
 
@@ -54,10 +54,6 @@ state-is-named reader =
     (both-hold _ _ (flag-is-named (reader .memory .known)) (flag-is-named (reader .«is_open»)))
 
 -- ---- a step
-
--- what C is told of what a step leaves
-abbrev pub toldToC : Outcome → OutcomeForC
-toldToC left = outcomeForC (answeredForC (left .step .answer) (left .step .place) (readerForC (left .step .reader))) (left .buffer)
 
 -- either step, on the state as it was handed out: the reader's own step
 pub worked-as-the-readers : (stepOf : Reader → List ℕ → List ℕ → Outcome) (reader : Reader) (packet buffer : List ℕ)

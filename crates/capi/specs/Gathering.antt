@@ -76,13 +76,6 @@ readerFromC state =
       wanted = state .wanted;
     }
 
--- what the code works in the place of a state that names no reader: a reader that is not sound
-abbrev pub notSound : Reader
-notSound = record { form = Form.Full; memory = noMemory; «is_open» = false; held = 0; wanted = 1 }
-
-unfoldable pub takenFromC : JambpepperReader → Reader
-takenFromC state = if namesReader state then readerFromC state else notSound
-
 -- a state that names no reader is not sound
 unfoldable pub soundForC : JambpepperReader → Bool
 soundForC state = namesReader state and sound (readerFromC state)
@@ -112,23 +105,22 @@ outcomeForC step buffer = record { step = step; buffer = buffer }
 abbrev pub answeredForC : ℕ → Place → JambpepperReader → JambpepperStep
 answeredForC answer place state = record { reader = state; place = placeForC place; answer = answer }
 
--- the step's answer to a host that gave this state
-unfoldable pub stepForC : JambpepperReader → Step → JambpepperStep
-stepForC state step =
-    answeredForC (step .answer) (step .place) (if namesReader state then readerForC (step .reader) else state)
+abbrev pub stepForC : Step → JambpepperStep
+stepForC step = answeredForC (step .answer) (step .place) (readerForC (step .reader))
 
--- a state that names no reader is not sound: "Checks before either step, in order: 3, 4, 5, 25", and state and buffer are the same
-abbrev pub refusedForC : JambpepperReader → List ℕ → List ℕ → OutcomeForC
-refusedForC state packet buffer =
-    outcomeForC (answeredForC (checked false packet (length buffer) .number) nowhere state) buffer
+-- what C is told of what a step leaves
+abbrev pub toldToC : Outcome → OutcomeForC
+toldToC left = outcomeForC (stepForC (left .step)) (left .buffer)
 
--- a step, tail or head, on the reader that the state names
+-- a state that names no reader is not sound: "Checks before either step, in order: 3, 4, 5, 25", and the state is the same
+abbrev pub refusedForC : JambpepperReader → List ℕ → ℕ → JambpepperStep
+refusedForC state packet buffer = answeredForC (checked false packet buffer .number) nowhere state
+
+-- a step, tail or head, on the reader that the state names; where it names none, the buffer is the same too
 unfoldable pub workedForC : (Reader → List ℕ → List ℕ → Outcome) → JambpepperReader → List ℕ → List ℕ → OutcomeForC
 workedForC stepOf state packet buffer =
-    if namesReader state then
-    (let left = stepOf (readerFromC state) packet buffer in
-    outcomeForC (answeredForC (left .step .answer) (left .step .place) (readerForC (left .step .reader))) (left .buffer))
-    else refusedForC state packet buffer
+    if namesReader state then toldToC (stepOf (readerFromC state) packet buffer)
+    else outcomeForC (refusedForC state packet (length buffer)) buffer
 
 -- ---- a delivered section
 

@@ -4,8 +4,9 @@ ghost use Rattle.reader.specs.Tail.{tailOf};
 ghost use Rattle.reader.specs.Head.{headOf};
 ghost use Rattle.capi.specs.Flags.{flag};
 ghost use Rattle.capi.specs.Gathering.{formNumber, formOf, holderNumber, holderOf, namesForm, namesReader};
-ghost use Rattle.capi.specs.Gathering.{readerForC, takenFromC, placeForC, placeFromC, stepForC, freshForC, soundForC};
+ghost use Rattle.capi.specs.Gathering.{readerForC, readerFromC, placeForC, placeFromC, stepForC, refusedForC, freshForC, soundForC};
 ghost use Rattle.capi.specs.Gathering.{outcomeForC, workedForC, sectionForC};
+use gathering_rules::checked;
 use reader::Form;
 use reader::Holder;
 use reader::Memory;
@@ -48,17 +49,15 @@ fn form_number(form: Form) -> u8
     }
 }
 
-// The form of a number that names one.
+// The form of a number that names one. (A `match` with an arm for each number costs nothing once it is compiled.)
 fn form_of(number: u8) -> Form
     ensures { λ r. ⌜ r ≡ formOf number ⌝ }
 {
-    if number == 0 {
-        return Form::Compact;
+    match number {
+        0 => Form::Compact,
+        1 => Form::Full,
+        _ => Form::Once,
     }
-    if number == 1 {
-        return Form::Full;
-    }
-    Form::Once
 }
 
 fn holder_number(holder: Holder) -> u8
@@ -95,31 +94,19 @@ fn names_reader(reader: JambpepperReader) -> bool
     false
 }
 
-// The reader that the state names; where it names none, one that is not sound.
-fn taken_from_c(reader: JambpepperReader) -> Reader
-    ensures { λ r. ⌜ r ≡ takenFromC reader ⌝ }
+// The reader that such a state names.
+fn reader_from_c(reader: JambpepperReader) -> Reader
+    ensures { λ r. ⌜ r ≡ readerFromC reader ⌝ }
 {
-    if names_reader(reader) {
-        return Reader {
-            form: form_of(reader.form),
-            memory: Memory {
-                known: reader.known == 1,
-                version: reader.version,
-            },
-            is_open: reader.is_open == 1,
-            held: reader.held,
-            wanted: reader.wanted,
-        };
-    }
     Reader {
-        form: Form::Full,
+        form: form_of(reader.form),
         memory: Memory {
-            known: false,
-            version: 0,
+            known: reader.known == 1,
+            version: reader.version,
         },
-        is_open: false,
-        held: 0,
-        wanted: 1,
+        is_open: reader.is_open == 1,
+        held: reader.held,
+        wanted: reader.wanted,
     }
 }
 
@@ -159,23 +146,31 @@ fn place_from_c(place: JambpepperPlace) -> Place
     }
 }
 
-// The step's answer to a host that gave this state: one that names no reader is given back as it is.
-fn step_for_c(given: JambpepperReader, step: Step) -> JambpepperStep
-    ensures { λ r. ⌜ r ≡ stepForC given step ⌝ }
+fn step_for_c(step: Step) -> JambpepperStep
+    ensures { λ r. ⌜ r ≡ stepForC step ⌝ }
 {
-    let place = place_for_c(step.place);
-    if names_reader(given) {
-        let reader = reader_for_c(step.reader);
-        return JambpepperStep {
-            reader,
-            place,
-            answer: step.answer,
-        };
-    }
+    let reader = step.reader;
+    let place = step.place;
     JambpepperStep {
-        reader: given,
-        place,
+        reader: reader_for_c(reader),
+        place: place_for_c(place),
         answer: step.answer,
+    }
+}
+
+// Either step's answer to a state that names no reader: it is not sound, and is given back as it is.
+fn refused_for_c(reader: JambpepperReader, packet: &[u8], buffer: usize) -> JambpepperStep
+    ensures { λ r. ⌜ r ≡ refusedForC reader (now (packet .entry)) buffer ⌝ }
+{
+    let payload = checked(false, packet, buffer);
+    JambpepperStep {
+        reader,
+        place: JambpepperPlace {
+            start: 0,
+            length: 0,
+            holder: 0,
+        },
+        answer: payload.number(),
     }
 }
 
@@ -200,7 +195,10 @@ pub extern "C" fn jambpepper_fresh(form: u8) -> JambpepperReader
 pub extern "C" fn jambpepper_is_sound(reader: JambpepperReader) -> u8
     ensures { λ r. ⌜ r ≡ flag (soundForC reader) ⌝ }
 {
-    taken_from_c(reader).is_sound() as u8
+    if names_reader(reader) {
+        return reader_from_c(reader).is_sound() as u8;
+    }
+    0
 }
 
 #[no_mangle]
@@ -211,8 +209,11 @@ pub extern "C" fn jambpepper_tail(
 ) -> JambpepperStep
     ensures { λ r. ⌜ outcomeForC r (now (buffer .exit)) ≡ workedForC tailOf reader (now (packet .entry)) (now (buffer .entry)) ⌝ }
 {
-    let step = taken_from_c(reader).tail(packet, buffer);
-    step_for_c(reader, step)
+    if names_reader(reader) {
+        let step = reader_from_c(reader).tail(packet, buffer);
+        return step_for_c(step);
+    }
+    refused_for_c(reader, packet, buffer.len())
 }
 
 #[no_mangle]
@@ -223,8 +224,11 @@ pub extern "C" fn jambpepper_head(
 ) -> JambpepperStep
     ensures { λ r. ⌜ outcomeForC r (now (buffer .exit)) ≡ workedForC headOf reader (now (packet .entry)) (now (buffer .entry)) ⌝ }
 {
-    let step = taken_from_c(reader).head(packet, buffer);
-    step_for_c(reader, step)
+    if names_reader(reader) {
+        let step = reader_from_c(reader).head(packet, buffer);
+        return step_for_c(step);
+    }
+    refused_for_c(reader, packet, buffer.len())
 }
 
 // Where C finds the section: the place, if a section is read there, else nowhere.

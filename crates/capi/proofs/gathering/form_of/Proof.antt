@@ -1,12 +1,4 @@
--- `capi::gathering::form_of` meets its contract: each way out gives what the tests before it choose. Assumes nothing.
-use borrow.Author.Tests.{eq-eqb, ne-eqb}
-use Rattle.fields.specs.Choice.{if_then_else_}
-use Rattle.capi.specs.Gathering.{formOf}
--- `capi::gathering::form_of` meets its contract: each way out gives what the tests before it choose. Assumes nothing.
-use borrow.Author.Tests.{eq-eqb, ne-eqb}
-use Rattle.fields.specs.Choice.{if_then_else_}
-use Rattle.capi.specs.Gathering.{formOf}
--- `capi::gathering::form_of` meets its contract: each way out gives what the tests before it choose. Assumes nothing.
+-- `capi::gathering::form_of` meets its contract: each arm is the form that its number names. Assumes nothing.
 use borrow.Author.Tests.{eq-eqb, ne-eqb}
 use Rattle.fields.specs.Choice.{if_then_else_}
 use Rattle.capi.specs.Gathering.{formOf}
@@ -15,15 +7,15 @@ use Rattle.capi.proofs.gathering.form_of.Tie as tie
 
 returns : tie.Need-returns
 unfolding formOf if_then_else_
-returns c = simp (eq-eqb _ _ (c .if1 .taken))
+returns c = simp (eq-eqb _ _ (c .match .keys1))
 
 returns-2 : tie.Need-returns-2
 unfolding formOf if_then_else_
-returns-2 c = simp (ne-eqb _ _ (c .before .if1 .left), eq-eqb _ _ (c .if2 .taken))
+returns-2 c = simp (c .match .keys2)
 
 returns-3 : tie.Need-returns-3
 unfolding formOf if_then_else_
-returns-3 c = simp (ne-eqb _ _ (c .before .if1 .left), ne-eqb _ _ (c .if2 .left))
+returns-3 c = simp (ne-eqb _ _ (c .match .rest .0 .1), ne-eqb _ _ (c .match .rest .1))
 
 pub form-of-spec : {M : Type 1} → statement M
 form-of-spec = tie.close (tie.spec returns returns-2 returns-3)

@@ -1,15 +1,20 @@
--- `capi::gathering::jambpepper_is_sound` meets its contract: a state is sound if the reader that is taken from it is. Assumes nothing.
-use mathlib.Core.Path.{ap, _∙_}
+-- `capi::gathering::jambpepper_is_sound` meets its contract: a state is sound if it names a reader that is. Assumes nothing.
+use mathlib.Core.Path.{sym, ap, _∙_}
+use Rattle.fields.specs.Choice.{if_then_else_}
+use Rattle.fields.proofs.Choices.{test-holds}
 use Rattle.reader.specs.State.{sound}
 use Rattle.capi.specs.Flags.{flag}
+use Rattle.capi.specs.Gathering.{soundForC}
 use Rattle.capi.proofs.Flags.{byte-is-flag}
-use Rattle.capi.proofs.States.{sound-as-taken}
 use borrow.Author.Needs.{needs}
 use Rattle.capi.proofs.gathering.jambpepper_is_sound.Statement.{statement}
 use Rattle.capi.proofs.gathering.jambpepper_is_sound.Tie as tie
 
-taken-from-c-requires : tie.Need-taken-from-c-requires
-taken-from-c-requires c κs = search needs
+names-reader-requires : tie.Need-names-reader-requires
+names-reader-requires c κs = search needs
+
+reader-from-c-requires : tie.Need-reader-from-c-requires
+reader-from-c-requires c κs = search needs
 
 is-sound-requires : tie.Need-is-sound-requires
 is-sound-requires c κs = search needs
@@ -18,8 +23,20 @@ cast-result : tie.Need-cast-result
 cast-result c = search needs
 
 returns : tie.Need-returns
-returns c = byte-is-flag _ ∙ ap flag (c .is-sound .ensures ∙ ap sound (c .before .taken-from-c .ensures) ∙ sound-as-taken _)
+unfolding soundForC
+returns c = byte-is-flag _ ∙ ap flag (c .is-sound .ensures ∙ ap sound (c .before .reader-from-c .ensures) ∙ sym (test-holds _ _ _ (sym (c .before .before .before .names-reader .ensures) ∙ c .before .before .if1 .taken)))
+
+returns-2 : tie.Need-returns-2
+unfolding soundForC flag if_then_else_
+returns-2 c = simp (← c .before .names-reader .ensures, c .if1 .left)
 
 pub jambpepper-is-sound-spec : {M : Type 1} → statement M
 jambpepper-is-sound-spec =
-    tie.close (tie.spec taken-from-c-requires is-sound-requires cast-result returns)
+    tie.close
+    (tie.spec
+    names-reader-requires
+    reader-from-c-requires
+    is-sound-requires
+    cast-result
+    returns
+    returns-2)
