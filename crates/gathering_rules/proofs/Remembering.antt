@@ -1,14 +1,15 @@
 -- What is remembered stays sound. Assumes nothing.
 use Prim.Native.Nat.{ℕ, _≤_, _<_}
-use mathlib.Core.Path.{_≡_, refl}
+use mathlib.Core.Path.{_≡_, refl, ap}
 use mathlib.Core.Bool.{true}
 use mathlib.Core.List.{List}
 use native.Mathlib.Omega.{arith}
-use borrow.Author.Tests.{le-leb, ltb-false}
+use lib.ListN.{length}
+use borrow.Author.Tests.{le-leb, le-ltb, ltb-false}
 use Rattle.fields.specs.Choice.{if_then_else_}
-use Rattle.fields.proofs.Choices.{of-both, of-either}
+use Rattle.fields.proofs.Choices.{test-fails, of-both, of-either}
 use Rattle.answers.specs.Says.{Says}
-use Rattle.psi.specs.Header.{tableFieldsOf, tableHeaderOf}
+use Rattle.psi.specs.Header.{versionNumber, tableFieldsOf, tableHeaderOf}
 use Rattle.psi.specs.declared.TableSyntaxHeader.{TableSyntaxHeader}
 use Rattle.psi.proofs.Sections.{version-number-below-32}
 use Rattle.gathering_rules.specs.declared.Form.{Form}
@@ -18,6 +19,11 @@ use Rattle.gathering_rules.specs.Memory.{noMemory, soundMemory, versionO
 pub nothing-remembered-sound : (form : Form) → soundMemory form noMemory ≡ true
 unfolding soundMemory if_then_else_
 nothing-remembered-sound form = refl
+
+-- of eight bytes, which ONCE has where nothing refuses a start, it is the field of the table
+pub version-of-eight : (bytes : List ℕ) → 8 ≤ length bytes → versionOf bytes ≡ versionNumber bytes
+unfolding tableHeaderOf tableFieldsOf
+version-of-eight bytes l = ap (λ (s : Says TableSyntaxHeader). s .values .version) (test-fails _ _ _ (le-ltb _ _ l))
 
 -- a version has 5 bits
 pub version-below-32 : (bytes : List ℕ) → versionOf bytes < 32

@@ -1,5 +1,6 @@
 -- What every step tests first.
 use Prim.Native.Nat.{ℕ}
+use mathlib.Core.Path.{_≡_}
 use mathlib.Core.Bool.{Bool}
 use mathlib.Core.List.{List}
 use Rattle.fields.specs.Choice.{if_then_else_, _is_}
@@ -20,3 +21,8 @@ checked isSound packet buffer =
     if isSound then payloadBehind packet
     else refused stateNotSound 0
     else refused bufferSize 0)
+
+-- an answer that speaks of packets and not of what the host handed back: neither 5 nor 25
+pub record NotTheHosts (answer : ℕ) : Type 0 where
+  pub not5 : answer ≡ bufferSize → ⊥
+  pub not25 : answer ≡ stateNotSound → ⊥

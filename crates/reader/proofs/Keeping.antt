@@ -5,20 +5,17 @@ use mathlib.Core.Bool.{Bool, true, false}
 use mathlib.Core.List.{List, [], _∷_}
 use native.Mathlib.Omega.{arith}
 use lib.ListN.{length, drop, length-take, length-drop}
-use borrow.Author.Tests.{eq-eqb, eqb-true, eqb-false, le-leb, lt-ltb, ltb-true, leb-false}
-use Rattle.fields.specs.Choice.{if_then_else_, _is_}
-use Rattle.fields.proofs.Choices.{test-holds, and-holds, of-both, of-either}
+use borrow.Author.Tests.{eqb-true, le-leb, lt-ltb, ltb-true, leb-false}
+use Rattle.fields.specs.Choice.{if_then_else_}
+use Rattle.fields.proofs.Choices.{and-holds, of-both, of-either}
 use Rattle.fields.proofs.LaidBytes.{laid-length}
-use Rattle.answers.specs.Says.{Says}
-use Rattle.packet.specs.Header.{ofAPacket}
-use Rattle.packet.specs.Payload.{startingAt, payloadBehind}
 use Rattle.psi.specs.Header.{wanted}
 use Rattle.gathering_rules.specs.declared.Form.{Form}
 use Rattle.gathering_rules.specs.declared.Memory.{Memory}
 use Rattle.gathering_rules.specs.Memory.{noMemory, soundMemory, atStart}
-use Rattle.gathering_rules.specs.Checks.{checked}
+use Rattle.gathering_rules.specs.Checks.{checked, NotTheHosts}
 use Rattle.gathering_rules.specs.Start.{leastHeld, startRefusal}
-use Rattle.gathering_rules.specs.Verdict.{crcVerdict, verdict}
+use Rattle.gathering_rules.proofs.Answering.{another, verdict-answers, start-refusal-answers, checked-answers}
 use Rattle.gathering_rules.proofs.Checking.{found-place}
 use Rattle.gathering_rules.proofs.Starts.{Starts, starts}
 use Rattle.gathering_rules.proofs.Remembering.{nothing-remembered-sound, at-start-sound, after-refusal-sound}
@@ -28,14 +25,11 @@ use Rattle.reader.specs.Checks.{fromAPlace, fromThePayload}
 use Rattle.reader.specs.Whole.{whole}
 use Rattle.reader.specs.Tail.{copied, filled, continued, tailFrom, tailOf}
 use Rattle.reader.specs.Head.{begun, started, headFrom, headOf}
-use Rattle.reader.specs.Run.{NotTheHosts, EveryStep, Worked, worked, run}
+use Rattle.reader.specs.Run.{EveryStep, Worked, worked, run}
 use Rattle.delivered.specs.declared.Place.{Place}
 use Rattle.reader.specs.declared.Reader.{Reader}
 use Rattle.reader.specs.declared.Step.{Step}
 use Rattle.reader.proofs.Soundness.{open-sound}
-
-another : (n : ℕ) → (n is 5) ≡ false → (n is 25) ≡ false → NotTheHosts n
-another n e f = record { not5 = eqb-false n 5 e; not25 = eqb-false n 25 f }
 
 -- what a step keeps
 pub record Keeps (left : Outcome) : Type 0 where
@@ -63,17 +57,6 @@ pub fresh-sound : (form : Form) → sound (fresh form) ≡ true
 fresh-sound form = idle-sound form noMemory (nothing-remembered-sound form)
 
 -- ---- the steps, from their ends to their starts
-
-crc-verdict-answers : (section : List ℕ) → NotTheHosts (crcVerdict section)
-unfolding crcVerdict
-crc-verdict-answers section =
-    of-both NotTheHosts _ _ _ (another 16 refl refl) (of-both NotTheHosts _ _ _ (another 2 refl refl) (another 17 refl refl))
-
-verdict-answers : (form : Form) (section : List ℕ) → NotTheHosts (verdict form section)
-unfolding verdict
-verdict-answers Form.Compact section = another 2 refl refl
-verdict-answers Form.Full section = crc-verdict-answers section
-verdict-answers Form.Once section = crc-verdict-answers section
 
 whole-keeps : (form : Form) (memory : Memory) (place : Place) (section buffer : List ℕ) → soundMemory form memory ≡ true
     → length buffer ≡ 1024
@@ -127,15 +110,6 @@ module _ (reader : Reader) (buffer : List ℕ) (isSound : sound reader ≡ true)
 
 -- ---- the head
 
-start-refusal-answers : (form : Form) (memory : Memory) (bytes : List ℕ) → NotTheHosts (startRefusal form memory bytes)
-unfolding startRefusal
-start-refusal-answers form memory bytes =
-    of-both NotTheHosts _ _ _ (another 10 refl refl)
-    (of-both NotTheHosts _ _ _
-    (of-both NotTheHosts _ _ _ (another 12 refl refl)
-    (of-both NotTheHosts _ _ _ (another 13 refl refl) (of-both NotTheHosts _ _ _ (another 14 refl refl) (another 0 refl refl))))
-    (another 11 refl refl))
-
 module _ (form : Form) (memory : Memory) (bytes : List ℕ) (at : ℕ) (buffer : List ℕ) (m : soundMemory form memory ≡ true)
     (lent : length buffer ≡ 1024) (few : length bytes ≤ 188) where
   begun-keeps : Starts form memory bytes → soundMemory form (atStart form memory bytes) ≡ true
@@ -162,27 +136,6 @@ module _ (form : Form) (memory : Memory) (bytes : List ℕ) (at : ℕ) (buffer :
         lent = lent;
         answers = start-refusal-answers form memory bytes;
       })
-
--- ---- the checks
-
--- a sound state and a buffer of the right length are not refused for themselves
-starting-at-answers : (start : ℕ) → NotTheHosts (startingAt start .number)
-unfolding startingAt
-starting-at-answers start =
-    of-both (λ (s : Says ℕ). NotTheHosts (s .number)) _ _ _ (another 0 refl refl)
-    (of-both (λ (s : Says ℕ). NotTheHosts (s .number)) _ _ _ (another 7 refl refl) (another 8 refl refl))
-
-checked-answers : (packet : List ℕ) (buffer : ℕ) → buffer ≡ 1024 → NotTheHosts (checked true packet buffer .number)
-unfolding checked ofAPacket payloadBehind
-checked-answers packet buffer lent =
-    of-both Fine _ _ _
-    (of-both Fine _ _ _ (subst Fine (sym (test-holds _ _ _ (eq-eqb buffer 1024 lent) ∙ test-holds _ _ _ refl))
-    (of-both Fine _ _ _ (starting-at-answers 4) (of-both Fine _ _ _ (starting-at-answers _) (another 6 refl refl))))
-    (another 4 refl refl))
-    (another 3 refl refl)
-  where
-    Fine : Says ℕ → Type 0
-    Fine s = NotTheHosts (s .number)
 
 module _ (reader : Reader) (packet buffer : List ℕ) (isSound : sound reader ≡ true) (lent : length buffer ≡ 1024) where
   from-the-payload-keeps : (goOn : ℕ → Outcome) → ((start : ℕ) → length packet ≡ 188 → Keeps (goOn start))

@@ -1,8 +1,6 @@
 -- A run over packets, each worked tail then head, the host returning state and buffer untouched.
 use Prim.Native.Nat.{ℕ}
-use mathlib.Core.Path.{_≡_}
 use mathlib.Core.List.{List, [], _∷_}
-use Rattle.answers.specs.Numbers.{bufferSize, stateNotSound}
 use Rattle.reader.specs.declared.Reader.{Reader}
 use Rattle.reader.specs.Outcome.{Outcome}
 use Rattle.reader.specs.Tail.{tailOf}
@@ -42,8 +40,3 @@ after reader buffer (packet ∷ packets) =
 unfoldable pub EveryStep : (Outcome → Type 0) → List Worked → Type 0
 EveryStep P [] = Unit {0}
 EveryStep P (packet ∷ packets) = P (packet .tail) × P (packet .head) × EveryStep P packets
-
--- an answer that speaks of packets and not of what the host handed back: neither 5 nor 25
-pub record NotTheHosts (answer : ℕ) : Type 0 where
-  pub not5 : answer ≡ bufferSize → ⊥
-  pub not25 : answer ≡ stateNotSound → ⊥

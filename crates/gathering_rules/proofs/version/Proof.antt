@@ -1,5 +1,5 @@
 -- `gathering_rules::version` meets its contract: what the table header says. Assumes nothing.
-use mathlib.Core.Path.{_≡_, sym, ap, _∙_}
+use mathlib.Core.Path.{sym, ap, _∙_}
 use Rattle.answers.specs.Says.{Says}
 use Rattle.psi.specs.Header.{tableHeaderSays}
 use Rattle.psi.specs.declared.TableSyntaxHeader.{TableSyntaxHeader}
