@@ -3,7 +3,7 @@ use mathlib.Core.Path.{_≡_, refl}
 use mathlib.Core.Bool.{Bool, true, false}
 use mir.Val.{boolByte}
 use Rattle.fields.specs.Choice.{if_then_else_}
-use Rattle.capi.specs.Flags.{flag}
+use Rattle.capi.specs.Numbers.{flag}
 
 pub byte-is-flag : (b : Bool) → boolByte b ≡ flag b
 unfolding flag if_then_else_

@@ -10,7 +10,7 @@ use Rattle.gathering_rules.specs.declared.Form.{Form}
 use Rattle.reader.specs.declared.Reader.{Reader}
 use Rattle.reader.specs.State.{fresh}
 use Rattle.reader.specs.Outcome.{Outcome}
-use Rattle.capi.specs.Flags.{flag}
+use Rattle.capi.specs.Numbers.{flag}
 use Rattle.capi.specs.Gathering.{formNumber, formOf, namesForm, namesReader, readerForC, readerFromC, freshForC}
 use Rattle.capi.specs.Gathering.{toldToC, workedForC}
 

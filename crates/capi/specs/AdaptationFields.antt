@@ -4,7 +4,7 @@ use Rattle.answers.specs.Says.{Says}
 use Rattle.adaptation.specs.declared.AdaptationField.{AdaptationField}
 use Rattle.adaptation.specs.declared.ClockRef.{ClockRef}
 use Rattle.adaptation.specs.declared.PrivateData.{PrivateData}
-use Rattle.capi.specs.Flags.{flag}
+use Rattle.capi.specs.Numbers.{flag, answerOf}
 use Rattle.capi.specs.declared.adaptation_fields.JambpepperAdaptationField.{JambpepperAdaptationField}
 use Rattle.capi.specs.declared.adaptation_fields.JambpepperClock.{JambpepperClock}
 use Rattle.capi.specs.declared.adaptation_fields.JambpepperSpliceCountdown.{JambpepperSpliceCountdown}
@@ -22,14 +22,14 @@ adaptationFieldForC said =
       «splicing_point_flag» = flag (said .values .«splicing_point_flag»);
       «transport_private_data_flag» = flag (said .values .«transport_private_data_flag»);
       «adaptation_field_extension_flag» = flag (said .values .«adaptation_field_extension_flag»);
-      answer = said .number;
+      answer = answerOf said;
     }
 
 abbrev pub clockForC : Says ClockRef → JambpepperClock
-clockForC said = record { base = said .values .base; extension = said .values .extension; answer = said .number }
+clockForC said = record { base = said .values .base; extension = said .values .extension; answer = answerOf said }
 
 abbrev pub spliceCountdownForC : Says ℕ → JambpepperSpliceCountdown
-spliceCountdownForC said = record { «splice_countdown» = said .values; answer = said .number }
+spliceCountdownForC said = record { «splice_countdown» = said .values; answer = answerOf said }
 
 abbrev pub privateDataForC : Says PrivateData → JambpepperPart
-privateDataForC said = record { start = said .values .start; length = said .values .length; answer = said .number }
+privateDataForC said = record { start = said .values .start; length = said .values .length; answer = answerOf said }

@@ -14,7 +14,7 @@ use Rattle.reader.specs.declared.Reader.{Reader}
 use Rattle.reader.specs.declared.Step.{Step}
 use Rattle.reader.specs.State.{sound, fresh}
 use Rattle.reader.specs.Outcome.{Outcome, nowhere}
-use Rattle.capi.specs.Flags.{flag}
+use Rattle.capi.specs.Numbers.{flag}
 use Rattle.capi.specs.declared.gathering.JambpepperReader.{JambpepperReader}
 use Rattle.capi.specs.declared.gathering.JambpepperPlace.{JambpepperPlace}
 use Rattle.capi.specs.declared.gathering.JambpepperStep.{JambpepperStep}

@@ -1,4 +1,4 @@
-pub mod Flags
+pub mod Numbers
 pub mod Packets
 pub mod AdaptationFields
 pub mod Sections

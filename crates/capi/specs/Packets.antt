@@ -2,7 +2,7 @@
 use Prim.Native.Nat.{ℕ}
 use Rattle.answers.specs.Says.{Says}
 use Rattle.packet.specs.declared.Header.{Header}
-use Rattle.capi.specs.Flags.{flag}
+use Rattle.capi.specs.Numbers.{flag, answerOf}
 use Rattle.capi.specs.declared.packets.JambpepperHeader.{JambpepperHeader}
 use Rattle.capi.specs.declared.packets.JambpepperPayload.{JambpepperPayload}
 
@@ -16,8 +16,8 @@ headerForC said =
       «transport_scrambling_control» = said .values .«transport_scrambling_control»;
       «adaptation_field_control» = said .values .«adaptation_field_control»;
       «continuity_counter» = said .values .«continuity_counter»;
-      answer = said .number;
+      answer = answerOf said;
     }
 
 abbrev pub payloadForC : Says ℕ → JambpepperPayload
-payloadForC said = record { start = said .values; answer = said .number }
+payloadForC said = record { start = said .values; answer = answerOf said }

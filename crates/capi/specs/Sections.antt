@@ -3,7 +3,7 @@ use Rattle.answers.specs.Says.{Says}
 use Rattle.psi.specs.declared.SectionCommonHeader.{SectionCommonHeader}
 use Rattle.psi.specs.declared.TableSyntaxHeader.{TableSyntaxHeader}
 use Rattle.psi.specs.declared.Place.{Place}
-use Rattle.capi.specs.Flags.{flag}
+use Rattle.capi.specs.Numbers.{flag, answerOf}
 use Rattle.capi.specs.declared.adaptation_fields.JambpepperPart.{JambpepperPart}
 use Rattle.capi.specs.declared.sections.JambpepperSectionHeader.{JambpepperSectionHeader}
 use Rattle.capi.specs.declared.sections.JambpepperTableHeader.{JambpepperTableHeader}
@@ -15,7 +15,7 @@ sectionHeaderForC said =
       «table_id» = said .values .«table_id»;
       «section_syntax_indicator» = flag (said .values .«section_syntax_indicator»);
       «private_indicator» = flag (said .values .«private_indicator»);
-      answer = said .number;
+      answer = answerOf said;
     }
 
 abbrev pub tableHeaderForC : Says TableSyntaxHeader → JambpepperTableHeader
@@ -26,8 +26,8 @@ tableHeaderForC said =
       «current_next_indicator» = flag (said .values .«current_next_indicator»);
       «section_number» = said .values .«section_number»;
       «last_section_number» = said .values .«last_section_number»;
-      answer = said .number;
+      answer = answerOf said;
     }
 
 abbrev pub partForC : Says Place → JambpepperPart
-partForC said = record { start = said .values .start; length = said .values .len; answer = said .number }
+partForC said = record { start = said .values .start; length = said .values .len; answer = answerOf said }

@@ -5,6 +5,7 @@ use Rattle.psi.specs.Walk.{Found}
 use Rattle.pat.specs.declared.ProgramDescriptor.{ProgramDescriptor}
 use Rattle.pmt.specs.Start.{Start}
 use Rattle.pmt.specs.declared.StreamInfo.{StreamInfo}
+use Rattle.capi.specs.Numbers.{answerOf}
 use Rattle.capi.specs.declared.walks.JambpepperProgram.{JambpepperProgram}
 use Rattle.capi.specs.declared.walks.JambpepperPmt.{JambpepperPmt}
 use Rattle.capi.specs.declared.walks.JambpepperStream.{JambpepperStream}
@@ -24,7 +25,7 @@ programForC said =
       next = said .values .next;
       «program_number» = programNumber (said .values .entry);
       pid = programPid (said .values .entry);
-      answer = said .number;
+      answer = answerOf said;
     }
 
 -- an entry that was found, and the position behind it
@@ -40,7 +41,7 @@ pmtForC said =
       needed = said .values .needed;
       actual = said .values .actual;
       «pcr_pid» = said .values .section .«pcr_pid»;
-      answer = said .number;
+      answer = answerOf said;
     }
 
 abbrev pub streamForC : Says (Found StreamInfo) → JambpepperStream
@@ -51,5 +52,5 @@ streamForC said =
       next = said .values .next;
       «elementary_pid» = said .values .entry .«elementary_pid»;
       «stream_type» = said .values .entry .«stream_type»;
-      answer = said .number;
+      answer = answerOf said;
     }

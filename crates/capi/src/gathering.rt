@@ -2,7 +2,7 @@
 ghost use mathlib.Core.Path.{_≡_};
 ghost use Rattle.reader.specs.Tail.{tailOf};
 ghost use Rattle.reader.specs.Head.{headOf};
-ghost use Rattle.capi.specs.Flags.{flag};
+ghost use Rattle.capi.specs.Numbers.{flag};
 ghost use Rattle.capi.specs.Gathering.{formNumber, formOf, holderNumber, holderOf, namesForm, namesReader};
 ghost use Rattle.capi.specs.Gathering.{readerForC, readerFromC, placeForC, placeFromC, stepForC, refusedForC, freshForC, soundForC};
 ghost use Rattle.capi.specs.Gathering.{outcomeForC, workedForC, sectionForC};

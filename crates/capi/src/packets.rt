@@ -3,7 +3,7 @@ ghost use mathlib.Core.Path.{_≡_};
 ghost use Rattle.packet.specs.Header.{headerOf};
 ghost use Rattle.packet.specs.Payload.{payloadOf};
 ghost use Rattle.packet.specs.Counter.{followsOf};
-ghost use Rattle.capi.specs.Flags.{flag};
+ghost use Rattle.capi.specs.Numbers.{flag};
 ghost use Rattle.capi.specs.Packets.{headerForC, payloadForC};
 use packet::ContinuityCounter;
 use packet::HeaderAnswer;

@@ -1,7 +1,7 @@
 -- `capi::adaptation_fields::jambpepper_adaptation_field` meets its contract: each case of the answer is what is said of it. Assumes nothing.
 use mathlib.Core.Path.{sym, ap, _∙_}
 use Rattle.fields.specs.Choice.{if_then_else_}
-use Rattle.capi.specs.Flags.{flag}
+use Rattle.capi.specs.Numbers.{flag}
 use Rattle.capi.proofs.Flags.{byte-is-flag}
 use Rattle.adaptation.specs.AdaptationField.{adaptationFieldSays}
 use borrow.Author.Needs.{needs}

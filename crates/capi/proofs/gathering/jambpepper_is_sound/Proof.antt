@@ -3,7 +3,7 @@ use mathlib.Core.Path.{sym, ap, _∙_}
 use Rattle.fields.specs.Choice.{if_then_else_}
 use Rattle.fields.proofs.Choices.{test-holds}
 use Rattle.reader.specs.State.{sound}
-use Rattle.capi.specs.Flags.{flag}
+use Rattle.capi.specs.Numbers.{flag}
 use Rattle.capi.specs.Gathering.{soundForC}
 use Rattle.capi.proofs.Flags.{byte-is-flag}
 use borrow.Author.Needs.{needs}

@@ -1,6 +1,6 @@
 -- `capi::packets::jambpepper_counter_follows` meets its contract: a bool as a byte is its flag. Assumes nothing.
 use mathlib.Core.Path.{ap, _∙_}
-use Rattle.capi.specs.Flags.{flag}
+use Rattle.capi.specs.Numbers.{flag}
 use Rattle.capi.proofs.Flags.{byte-is-flag}
 use borrow.Author.Needs.{needs}
 use Rattle.capi.proofs.packets.jambpepper_counter_follows.Statement.{statement}
