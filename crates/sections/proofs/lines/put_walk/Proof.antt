@@ -1,0 +1,51 @@
+-- `lines::put_walk` is safe and ends: each turn is one call fewer of those that it allows. Assumes nothing.
+use Prim.Native.Nat.{_+_, _-_, _≤_}
+use lib.ListN.{length}
+use borrow.Author.Needs.{needs}
+use Rattle.sections.proofs.lines.put_walk.Statement.{statement}
+use Rattle.sections.proofs.lines.put_walk.Tie as tie
+
+abbrev Inv-loop : tie.InvT-loop
+Inv-loop walk body position turn₀ calls₀ turn calls = calls ≤ length body + 1
+
+abbrev μ-loop : tie.MeasureT-loop
+μ-loop walk body position turn₀ calls₀ turn calls = (length body + 1) - calls
+
+goes-on-requires : tie.Need-goes-on-requires Inv-loop μ-loop
+goes-on-requires c κs = search needs
+
+loop-holds : tie.Need-loop-holds Inv-loop μ-loop
+loop-holds c = search needs
+
+put-entry-requires : tie.Need-put-entry-requires Inv-loop μ-loop
+put-entry-requires c κs = search needs
+
+add-calls : tie.Need-add-calls Inv-loop μ-loop
+add-calls c = search needs
+
+loop-less : tie.Need-loop-less Inv-loop μ-loop
+loop-less c = search needs
+
+loop-again : tie.Need-loop-again Inv-loop μ-loop
+loop-again c = search needs
+
+returns : tie.Need-returns Inv-loop μ-loop
+returns c = search needs
+
+returns-2 : tie.Need-returns-2 Inv-loop μ-loop
+returns-2 c = search needs
+
+pub put-walk-spec : {M : Type 1} → statement M
+put-walk-spec =
+    tie.close
+    (tie.spec
+    Inv-loop
+    μ-loop
+    goes-on-requires
+    loop-holds
+    put-entry-requires
+    add-calls
+    loop-less
+    loop-again
+    returns
+    returns-2)

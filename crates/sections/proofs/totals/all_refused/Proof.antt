@@ -1,0 +1,50 @@
+-- `totals::all_refused` is safe and ends: each turn is of a higher answer. Assumes nothing.
+use Prim.Native.Nat.{_-_, _≤_}
+use borrow.Author.Needs.{needs}
+use Rattle.sections.proofs.totals.all_refused.Statement.{statement}
+use Rattle.sections.proofs.totals.all_refused.Tie as tie
+
+abbrev Inv-loop : tie.InvT-loop
+Inv-loop sums total₀ answer₀ total answer = (answer ≤ 27)
+
+abbrev μ-loop : tie.MeasureT-loop
+μ-loop sums total₀ answer₀ total answer = 27 - answer
+
+loop-holds : tie.Need-loop-holds Inv-loop μ-loop
+loop-holds c = search needs
+
+cast-of : tie.Need-cast-of Inv-loop μ-loop
+cast-of c = search needs
+
+of-requires : tie.Need-of-requires Inv-loop μ-loop
+of-requires c κs = search needs
+
+sum-requires : tie.Need-sum-requires Inv-loop μ-loop
+sum-requires c κs = search needs
+
+add-answer : tie.Need-add-answer Inv-loop μ-loop
+add-answer c = search needs
+
+loop-less : tie.Need-loop-less Inv-loop μ-loop
+loop-less c = search needs
+
+loop-again : tie.Need-loop-again Inv-loop μ-loop
+loop-again c = search needs
+
+returns : tie.Need-returns Inv-loop μ-loop
+returns c = search needs
+
+pub all-refused-spec : {M : Type 1} → statement M
+all-refused-spec =
+    tie.close
+    (tie.spec
+    Inv-loop
+    μ-loop
+    loop-holds
+    cast-of
+    of-requires
+    sum-requires
+    add-answer
+    loop-less
+    loop-again
+    returns)
