@@ -44,17 +44,26 @@ pub turn : {next whole : ℕ} (register : ℕ) (bytes : List ℕ) (i : ℕ) → 
 unfolding crcFrom
 turn register bytes i h step p = rw (step, add-one) (sym (ap (crcFrom register) (drop-cons bytes i 0 h)) ∙ p)
 
--- a turn of a loop over eight bytes, which are one word
-pub eight-turn : {next whole : ℕ} (register : ℕ) (bytes : List ℕ) (at : ℕ) → at + 8 ≤ length bytes → ((i : ℕ) → getD bytes i 0 < 256)
-    → next ≡ bitsEnter 64 register (wordOf bytes at 8) → crcFrom register (drop at bytes) ≡ whole → crcFrom next (drop (at + 8) bytes) ≡ whole
-eight-turn register bytes at l h step p =
+-- a turn over four bytes, which are one word, and over eight, which are two
+word-turn : {next whole : ℕ} (register : ℕ) (bytes : List ℕ) (at : ℕ) → at + 4 ≤ length bytes → ((i : ℕ) → getD bytes i 0 < 256)
+    → next ≡ bitsEnter 32 register (wordOf bytes at 4) → crcFrom register (drop at bytes) ≡ whole → crcFrom next (drop (at + 4) bytes) ≡ whole
+word-turn register bytes at l h step p =
     let rest : List ℕ = drop at bytes in
     ap₂ crcFrom
-    (step ∙ ap (bitsEnter 64 register) (word-there bytes at 8 (omega arith) l)
-    ∙ sym (word-enters 8 register rest (simp length-drop (omega arith))
+    (step ∙ ap (bitsEnter 32 register) (word-there bytes at 4 (omega arith) l)
+    ∙ sym (word-enters 4 register rest (simp length-drop (omega arith))
     (λ i. subst (λ b. b < 256) (sym (getD-drop at bytes i 0)) (h (at + i)))))
-    (sym (drop-drop 8 at bytes))
-    ∙ sym (crc-append register (take 8 rest) (drop 8 rest)) ∙ ap (crcFrom register) (take-append-drop 8 rest) ∙ p
+    (sym (drop-drop 4 at bytes))
+    ∙ sym (crc-append register (take 4 rest) (drop 4 rest)) ∙ ap (crcFrom register) (take-append-drop 4 rest) ∙ p
+
+pub eight-turn : {next whole : ℕ} (register : ℕ) (bytes : List ℕ) (at : ℕ) → at + 8 ≤ length bytes → ((i : ℕ) → getD bytes i 0 < 256)
+    → next ≡ bitsEnter 32 (bitsEnter 32 register (wordOf bytes at 4)) (wordOf bytes (at + 4) 4)
+    → crcFrom register (drop at bytes) ≡ whole → crcFrom next (drop (at + 8) bytes) ≡ whole
+eight-turn {next} register bytes at l h step p =
+    let q : at + 8 ≡ at + 4 + 4 = omega arith in
+    ap (λ n. crcFrom next (drop n bytes)) q
+    ∙ word-turn (bitsEnter 32 register (wordOf bytes at 4)) bytes (at + 4) (omega arith) h step
+    (word-turn register bytes at (omega arith) h refl p)
 
 -- its end
 pub done : {register whole : ℕ} (bytes : List ℕ) (i : ℕ) → length bytes ≤ i

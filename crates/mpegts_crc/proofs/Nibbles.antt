@@ -1,15 +1,16 @@
--- Many bits enter at once. What they bring into the register is the sum of what each four of them bring, `four-more`; and a register is as good as
--- 32 bits ahead of those that enter a register of zero, `register-ahead`. Assumes nothing.
+-- Many bits enter at once: what they bring into a register of zero is the sum of what each four of them bring, `four-more`; and 32 bits that enter
+-- are added to the register, `register-added`. Assumes nothing.
 use mathlib.Core.Path.{_≡_, refl, sym, ap, ap₂, _∙_}
 use Prim.Native.Nat.{ℕ, zero, suc, _+_, _*_, _/_, _%_, _^_, _<_}
-use native.Mathlib.Nat.{zero-add, suc-add, mul-one, zero-mul, zero-div, div-one, mod-lt, mod-eq-of-lt, mul-mod-left}
+use native.Mathlib.Nat.{zero-add, suc-add, mul-one, zero-div, div-one, mod-lt, mod-eq-of-lt}
 use native.Mathlib.Omega.{arith}
-use lib.Pow.{pow-pos, split, shl-shr}
+use lib.Dec.{lit<}
+use lib.Pow.{pow-pos, split}
 use lib.Bits.{bitXor, xor-shr, xor-mod, xor-shifted, xor-comm, xor-zero-l, xor-zero-r}
 use Rattle.mpegts_crc.specs.Crc.{bitStep, bitSteps, bitEnters, bitsEnter}
 use Rattle.mpegts_crc.specs.StepTable.{entryOf, nibbleEntry}
-use Rattle.mpegts_crc.proofs.Xor.{xor-swap, xor-shl}
-use Rattle.mpegts_crc.proofs.Steps.{step-xor, steps-xor, enter-top, enter-join}
+use Rattle.mpegts_crc.proofs.Xor.{xor-assoc, xor-swap, xor-shl}
+use Rattle.mpegts_crc.proofs.Steps.{step-xor, steps-xor, steps-shift, enter-top, enter-join}
 
 -- ---- what enters is a sum
 
@@ -71,26 +72,44 @@ module _ (bits : ℕ) where
       → bitXor sum four ≡ bitsEnter ((n + 1) * 4) 0 bits
   next-four n p e = ap₂ bitXor p e ∙ sym (four-more n bits)
 
--- ---- the register as the first 32 bits
+-- ---- 32 bits by fours, ahead of 32 others
 
-module _ (k m : ℕ) (e : m + k ≡ 32) where
-  through : (register : ℕ) → register < 2 ^ 32 → bitsEnter (32 + k) 0 (register * 2 ^ k) ≡ bitSteps (32 + k) register
-  through register h =
-      let r : ℕ = bitSteps 32 register in
-      sym (enter-join 32 k 0 (register * 2 ^ k))
-      ∙ ap (λ n. bitsEnter k n (register * 2 ^ k))
-      (ap (bitsEnter 32 0) (shl-shr register k) ∙ enter-top 32 0 refl 0 register
-      ∙ ap (bitSteps 32) (xor-zero-l (register % 2 ^ 32 * 1) ∙ mul-one (register % 2 ^ 32) ∙ mod-eq-of-lt h))
-      ∙ enter-top k m e r (register * 2 ^ k)
-      ∙ ap (bitSteps k)
-      (ap (bitXor r) (ap (λ n. n * 2 ^ m) (mul-mod-left register (2 ^ k)) ∙ zero-mul (2 ^ m)) ∙ xor-zero-r r)
-      ∙ steps-join 32 k register
+module _ (bits last : ℕ) where
+  -- what `last` and the 4 * n last bits of the 32 ahead of it bring
+  abbrev ahead : ℕ → ℕ
+  ahead n = bitXor (bitsEnter 32 0 last) (bitSteps 32 (bitsEnter (n * 4) 0 bits))
 
-  pub register-ahead : (register n : ℕ) → register < 2 ^ 32
-      → bitsEnter (32 + k) register n ≡ bitsEnter (32 + k) 0 (bitXor (register * 2 ^ k) n)
-  register-ahead register n h =
-      enter-apart (32 + k) register n ∙ ap (λ r. bitXor r (bitsEnter (32 + k) 0 n)) (sym (through register h))
-      ∙ sym (enter-xor (32 + k) 0 0 (register * 2 ^ k) n)
+  pub four-ahead : (n : ℕ) {sum four : ℕ} → sum ≡ ahead n → four ≡ nibbleEntry (n + 8) (bits / 2 ^ (n * 4) % 16)
+      → bitXor sum four ≡ ahead (n + 1)
+  four-ahead n p e =
+      let i : ℕ = bits / 2 ^ (n * 4) % 16 in
+      let before : ℕ = bitsEnter (n * 4) 0 bits in
+      let q : (n + 1) * 4 + 32 ≡ (n + 8 + 1) * 4 = omega arith in
+      ap₂ bitXor p e ∙ xor-assoc (bitsEnter 32 0 last) (bitSteps 32 before) (nibbleEntry (n + 8) i)
+      ∙ sym (ap (bitXor (bitsEnter 32 0 last))
+      (ap (bitSteps 32) (four-more n bits) ∙ steps-xor 32 before (nibbleEntry n i)
+      ∙ ap (bitXor (bitSteps 32 before)) (steps-join ((n + 1) * 4) 32 (i * 2 ^ 28) ∙ ap (λ w. bitSteps w (i * 2 ^ 28)) q)))
+
+  pub first-ahead : {sum four : ℕ} → sum ≡ bitsEnter 32 0 last → four ≡ nibbleEntry 8 (bits % 16) → bitXor sum four ≡ ahead 1
+  unfolding bitsEnter
+  first-ahead p e =
+      four-ahead 0
+      (p ∙ sym (ap (bitXor (bitsEnter 32 0 last)) (steps-shift 32 0 (lit< tt)) ∙ xor-zero-r (bitsEnter 32 0 last)))
+      (e ∙ ap (λ b. nibbleEntry 8 (b % 16)) (sym (div-one bits)))
+
+  -- all 32
+  pub all-ahead : ahead 8 ≡ bitsEnter 32 (bitsEnter 32 0 bits) last
+  all-ahead =
+      xor-comm (bitsEnter 32 0 last) (bitSteps 32 (bitsEnter 32 0 bits)) ∙ sym (enter-apart 32 (bitsEnter 32 0 bits) last)
+
+-- 32 bits that enter are added to the register
+pub register-added : (register n : ℕ) → register < 2 ^ 32 → bitsEnter 32 register n ≡ bitsEnter 32 0 (bitXor register n)
+register-added register n h =
+    enter-apart 32 register n
+    ∙ ap (λ r. bitXor r (bitsEnter 32 0 n))
+    (sym (enter-top 32 0 refl 0 register
+    ∙ ap (bitSteps 32) (xor-zero-l (register % 2 ^ 32 * 1) ∙ mul-one (register % 2 ^ 32) ∙ mod-eq-of-lt h)))
+    ∙ sym (enter-xor 32 0 0 register n)
 
 -- ---- a byte as two fours
 

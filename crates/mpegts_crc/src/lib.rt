@@ -13,7 +13,12 @@ pub fn sum32(data: &[u8]) -> u32
     let mut register: u32 = 0xffff_ffff;
     let mut at = 0;
     while 8 <= data.len() - at {
-        register = eight_bytes_enter(&NIBBLE_TABLES, register, word(data, at, 8));
+        register = eight_bytes_enter(
+            &NIBBLE_TABLES,
+            register,
+            word(data, at, 4),
+            word(data, at + 4, 4),
+        );
         at += 8;
     }
     bytes_enter(register, data, at)
@@ -30,28 +35,28 @@ fn bytes_enter(register: u32, data: &[u8], at: usize) -> u32
     register
 }
 
-// The register after eight more bytes. The tables' entries for the bytes, which do not wait for the register, come first.
-fn eight_bytes_enter(tables: &[[u32; 16]; 16], register: u32, bytes: u64) -> u32
+// The register after eight more bytes, four and then four. What does not wait for the register is added first.
+fn eight_bytes_enter(tables: &[[u32; 16]; 16], register: u32, first: u64, second: u64) -> u32
     requires { ⌜ NibbleTables (now tables) ⌝ }
-    ensures { λ r. ⌜ r ≡ bitsEnter 64 register bytes ⌝ }
+    ensures { λ r. ⌜ r ≡ bitsEnter 32 (bitsEnter 32 register first) second ⌝ }
 {
-    let bits = ((register as u64) << 32) ^ bytes;
-    nibble(tables, 0, bits)
-        ^ nibble(tables, 1, bits >> 4)
-        ^ nibble(tables, 2, bits >> 8)
-        ^ nibble(tables, 3, bits >> 12)
-        ^ nibble(tables, 4, bits >> 16)
-        ^ nibble(tables, 5, bits >> 20)
-        ^ nibble(tables, 6, bits >> 24)
-        ^ nibble(tables, 7, bits >> 28)
-        ^ nibble(tables, 8, bits >> 32)
-        ^ nibble(tables, 9, bits >> 36)
-        ^ nibble(tables, 10, bits >> 40)
-        ^ nibble(tables, 11, bits >> 44)
-        ^ nibble(tables, 12, bits >> 48)
-        ^ nibble(tables, 13, bits >> 52)
-        ^ nibble(tables, 14, bits >> 56)
-        ^ nibble(tables, 15, bits >> 60)
+    let ahead = register as u64 ^ first;
+    nibble(tables, 0, second)
+        ^ nibble(tables, 1, second >> 4)
+        ^ nibble(tables, 2, second >> 8)
+        ^ nibble(tables, 3, second >> 12)
+        ^ nibble(tables, 4, second >> 16)
+        ^ nibble(tables, 5, second >> 20)
+        ^ nibble(tables, 6, second >> 24)
+        ^ nibble(tables, 7, second >> 28)
+        ^ nibble(tables, 8, ahead)
+        ^ nibble(tables, 9, ahead >> 4)
+        ^ nibble(tables, 10, ahead >> 8)
+        ^ nibble(tables, 11, ahead >> 12)
+        ^ nibble(tables, 12, ahead >> 16)
+        ^ nibble(tables, 13, ahead >> 20)
+        ^ nibble(tables, 14, ahead >> 24)
+        ^ nibble(tables, 15, ahead >> 28)
 }
 
 // The entry of table j for the last four bits of i.

@@ -1,5 +1,5 @@
 -- `mpegts_crc::sum32` meets its contract: at each turn the CRC of the bytes left, from the register, is the CRC of all. Assumes nothing.
-use mathlib.Core.Path.{_≡_, refl, ap, _∙_}
+use mathlib.Core.Path.{_≡_, refl, ap₂, _∙_}
 use Prim.Native.Nat.{_+_, _-_, _≤_}
 use native.Mathlib.Omega.{arith}
 use borrow.Author.Needs.{needs}
@@ -27,6 +27,12 @@ sub-loop c = search needs
 word-requires : tie.Need-word-requires Inv-loop μ-loop
 word-requires c κs = tt
 
+add-word : tie.Need-add-word Inv-loop μ-loop
+add-word c = search needs
+
+word-requires-2 : tie.Need-word-requires-2 Inv-loop μ-loop
+word-requires-2 c κs = tt
+
 -- the test of the tables
 eight-bytes-enter-requires : tie.Need-eight-bytes-enter-requires Inv-loop μ-loop
 unfolding _plusPolynomialIf_ bitStep bitSteps
@@ -40,10 +46,11 @@ loop-less c = search needs
 
 loop-again : tie.Need-loop-again Inv-loop μ-loop
 loop-again c =
-    let l = c .before .before .before .before in
+    let l = c .before .before .before .before .before in
     let d = l .before in
     let bytes = now (d .before .args .«data») in
-    let next = c .eight-bytes-enter .ensures ∙ ap (bitsEnter 64 (l .loop .register)) (c .before .word .ensures) in
+    let next = c .eight-bytes-enter .ensures
+    ∙ ap₂ (λ x y. bitsEnter 32 (bitsEnter 32 (l .loop .register) x) y) (c .before .before .word .ensures) (c .before .word2 .ensures) in
     let there : l .loop .at + 8 ≤ length bytes = omega (arith, l .loop .inv .1) in (
       eight-turn (l .loop .register) bytes (l .loop .at) there (λ i. omega (arith, d .shared-slice-known .given i)) next (l .loop .inv .0),
       search needs,
@@ -64,6 +71,8 @@ sum32-spec =
     loop-holds
     sub-loop
     word-requires
+    add-word
+    word-requires-2
     eight-bytes-enter-requires
     add-at
     loop-less
