@@ -4,13 +4,12 @@ use mathlib.Core.Path.{_≡_, refl, sym, ap, ap₂, _∙_}
 use Prim.Native.Nat.{ℕ, zero, suc, _+_, _*_, _/_, _%_, _^_, _<_}
 use native.Mathlib.Nat.{zero-add, suc-add, mul-one, zero-div, div-one, mod-lt, mod-eq-of-lt}
 use native.Mathlib.Omega.{arith}
-use lib.Dec.{lit<}
 use lib.Pow.{pow-pos, split}
 use lib.Bits.{bitXor, xor-shr, xor-mod, xor-shifted, xor-comm, xor-zero-l, xor-zero-r}
-use Rattle.mpegts_crc.specs.Crc.{bitStep, bitSteps, bitEnters, bitsEnter}
+use Rattle.mpegts_crc.specs.Crc.{_plusPolynomialIf_, bitStep, bitSteps, bitEnters, bitsEnter}
 use Rattle.mpegts_crc.specs.StepTable.{entryOf, nibbleEntry}
-use Rattle.mpegts_crc.proofs.Xor.{xor-assoc, xor-swap, xor-shl}
-use Rattle.mpegts_crc.proofs.Steps.{step-xor, steps-xor, steps-shift, enter-top, enter-join}
+use Rattle.mpegts_crc.proofs.Xor.{xor-swap, xor-shl}
+use Rattle.mpegts_crc.proofs.Steps.{step-xor, steps-xor, enter-top, enter-join}
 
 -- ---- what enters is a sum
 
@@ -38,7 +37,7 @@ zeros-enter (suc k) register =
     ∙ zeros-enter k (bitStep register)
 
 -- the register and the bits apart
-enter-apart : (k register n : ℕ) → bitsEnter k register n ≡ bitXor (bitSteps k register) (bitsEnter k 0 n)
+pub enter-apart : (k register n : ℕ) → bitsEnter k register n ≡ bitXor (bitSteps k register) (bitsEnter k 0 n)
 enter-apart k register n =
     sym (ap₂ (bitsEnter k) (xor-zero-r register) (xor-zero-l n)) ∙ enter-xor k register 0 0 n
     ∙ ap (λ r. bitXor r (bitsEnter k 0 n)) (zeros-enter k register)
@@ -61,46 +60,36 @@ four-more n bits =
     (ap (bitSteps (n * 4)) (enter-top 4 28 refl 0 ahead ∙ ap (bitSteps 4) (xor-zero-l top)) ∙ steps-join 4 (n * 4) top
     ∙ ap (λ w. bitSteps w top) (sym q))
 
--- the same of numbers that are known to be equal
-module _ (bits : ℕ) where
-  pub first-four : {four : ℕ} → four ≡ nibbleEntry 0 (bits % 16) → four ≡ bitsEnter 4 0 bits
-  unfolding bitsEnter
-  first-four e =
-      e ∙ ap (λ b. nibbleEntry 0 (b % 16)) (sym (div-one bits)) ∙ sym (four-more 0 bits ∙ xor-zero-l (nibbleEntry 0 (bits / 1 % 16)))
+-- ---- the same where so many fours are behind them
 
-  pub next-four : (n : ℕ) {sum four : ℕ} → sum ≡ bitsEnter (n * 4) 0 bits → four ≡ nibbleEntry n (bits / 2 ^ (n * 4) % 16)
-      → bitXor sum four ≡ bitsEnter ((n + 1) * 4) 0 bits
-  next-four n p e = ap₂ bitXor p e ∙ sym (four-more n bits)
+steps-zero : (k : ℕ) → bitSteps k 0 ≡ 0
+unfolding bitSteps bitStep _plusPolynomialIf_
+steps-zero zero = refl
+steps-zero (suc k) = steps-zero k
 
--- ---- 32 bits by fours, ahead of 32 others
+module _ (behind bits : ℕ) where
+  -- what the last n fours of the bits bring
+  abbrev brought : ℕ → ℕ
+  brought n = bitSteps (behind * 4) (bitsEnter (n * 4) 0 bits)
 
-module _ (bits last : ℕ) where
-  -- what `last` and the 4 * n last bits of the 32 ahead of it bring
-  abbrev ahead : ℕ → ℕ
-  ahead n = bitXor (bitsEnter 32 0 last) (bitSteps 32 (bitsEnter (n * 4) 0 bits))
-
-  pub four-ahead : (n : ℕ) {sum four : ℕ} → sum ≡ ahead n → four ≡ nibbleEntry (n + 8) (bits / 2 ^ (n * 4) % 16)
-      → bitXor sum four ≡ ahead (n + 1)
-  four-ahead n p e =
+  pub next-four : (n : ℕ) {sum four : ℕ} → sum ≡ brought n → four ≡ nibbleEntry (n + behind) (bits / 2 ^ (n * 4) % 16)
+      → bitXor sum four ≡ brought (n + 1)
+  next-four n p e =
       let i : ℕ = bits / 2 ^ (n * 4) % 16 in
-      let before : ℕ = bitsEnter (n * 4) 0 bits in
-      let q : (n + 1) * 4 + 32 ≡ (n + 8 + 1) * 4 = omega arith in
-      ap₂ bitXor p e ∙ xor-assoc (bitsEnter 32 0 last) (bitSteps 32 before) (nibbleEntry (n + 8) i)
-      ∙ sym (ap (bitXor (bitsEnter 32 0 last))
-      (ap (bitSteps 32) (four-more n bits) ∙ steps-xor 32 before (nibbleEntry n i)
-      ∙ ap (bitXor (bitSteps 32 before)) (steps-join ((n + 1) * 4) 32 (i * 2 ^ 28) ∙ ap (λ w. bitSteps w (i * 2 ^ 28)) q)))
+      let q : (n + 1) * 4 + behind * 4 ≡ (n + behind + 1) * 4 = omega arith in
+      ap₂ bitXor p e
+      ∙ sym (ap (bitSteps (behind * 4)) (four-more n bits)
+      ∙ steps-xor (behind * 4) (bitsEnter (n * 4) 0 bits) (nibbleEntry n i)
+      ∙ ap (bitXor (brought n)) (steps-join ((n + 1) * 4) (behind * 4) (i * 2 ^ 28) ∙ ap (λ w. bitSteps w (i * 2 ^ 28)) q))
 
-  pub first-ahead : {sum four : ℕ} → sum ≡ bitsEnter 32 0 last → four ≡ nibbleEntry 8 (bits % 16) → bitXor sum four ≡ ahead 1
+  pub first-four : {four : ℕ} → four ≡ nibbleEntry behind (bits % 16) → four ≡ brought 1
   unfolding bitsEnter
-  first-ahead p e =
-      four-ahead 0
-      (p ∙ sym (ap (bitXor (bitsEnter 32 0 last)) (steps-shift 32 0 (lit< tt)) ∙ xor-zero-r (bitsEnter 32 0 last)))
-      (e ∙ ap (λ b. nibbleEntry 8 (b % 16)) (sym (div-one bits)))
+  first-four {four} e =
+      sym (xor-zero-l four)
+      ∙ next-four 0 (sym (steps-zero (behind * 4)))
+      (e ∙ ap₂ (λ j b. nibbleEntry j (b % 16)) (sym (zero-add behind)) (sym (div-one bits)))
 
-  -- all 32
-  pub all-ahead : ahead 8 ≡ bitsEnter 32 (bitsEnter 32 0 bits) last
-  all-ahead =
-      xor-comm (bitsEnter 32 0 last) (bitSteps 32 (bitsEnter 32 0 bits)) ∙ sym (enter-apart 32 (bitsEnter 32 0 bits) last)
+-- ---- the register
 
 -- 32 bits that enter are added to the register
 pub register-added : (register n : ℕ) → register < 2 ^ 32 → bitsEnter 32 register n ≡ bitsEnter 32 0 (bitXor register n)

@@ -2,7 +2,7 @@
 ghost use mathlib.Core.Path.{_≡_};
 ghost use Prim.Native.Nat.{ℕ, _*_, _%_, _<_, _≤_};
 ghost use lib.ListN.{getD, drop};
-ghost use Rattle.mpegts_crc.specs.Crc.{bitsEnter, crcFrom, crcOf};
+ghost use Rattle.mpegts_crc.specs.Crc.{bitSteps, bitsEnter, crcFrom, crcOf};
 ghost use Rattle.mpegts_crc.specs.StepTable.{entryOf, StepTable, nibbleEntry, NibbleTables};
 use fields::word;
 
@@ -35,28 +35,42 @@ fn bytes_enter(register: u32, data: &[u8], at: usize) -> u32
     register
 }
 
-// The register after eight more bytes, four and then four. What does not wait for the register is added first.
+// The register after eight more bytes, four and then four.
 fn eight_bytes_enter(tables: &[[u32; 16]; 16], register: u32, first: u64, second: u64) -> u32
     requires { ⌜ NibbleTables (now tables) ⌝ }
     ensures { λ r. ⌜ r ≡ bitsEnter 32 (bitsEnter 32 register first) second ⌝ }
 {
-    let ahead = register as u64 ^ first;
-    nibble(tables, 0, second)
-        ^ nibble(tables, 1, second >> 4)
-        ^ nibble(tables, 2, second >> 8)
-        ^ nibble(tables, 3, second >> 12)
-        ^ nibble(tables, 4, second >> 16)
-        ^ nibble(tables, 5, second >> 20)
-        ^ nibble(tables, 6, second >> 24)
-        ^ nibble(tables, 7, second >> 28)
-        ^ nibble(tables, 8, ahead)
-        ^ nibble(tables, 9, ahead >> 4)
-        ^ nibble(tables, 10, ahead >> 8)
-        ^ nibble(tables, 11, ahead >> 12)
-        ^ nibble(tables, 12, ahead >> 16)
-        ^ nibble(tables, 13, ahead >> 20)
-        ^ nibble(tables, 14, ahead >> 24)
-        ^ nibble(tables, 15, ahead >> 28)
+    four_last(tables, second) ^ four_ahead(tables, register as u64 ^ first)
+}
+
+// What four bytes bring into a register of zero.
+fn four_last(tables: &[[u32; 16]; 16], bytes: u64) -> u32
+    requires { ⌜ NibbleTables (now tables) ⌝ }
+    ensures { λ r. ⌜ r ≡ bitsEnter 32 0 bytes ⌝ }
+{
+    nibble(tables, 0, bytes)
+        ^ nibble(tables, 1, bytes >> 4)
+        ^ nibble(tables, 2, bytes >> 8)
+        ^ nibble(tables, 3, bytes >> 12)
+        ^ nibble(tables, 4, bytes >> 16)
+        ^ nibble(tables, 5, bytes >> 20)
+        ^ nibble(tables, 6, bytes >> 24)
+        ^ nibble(tables, 7, bytes >> 28)
+}
+
+// The same of four bytes with four others behind them.
+fn four_ahead(tables: &[[u32; 16]; 16], bytes: u64) -> u32
+    requires { ⌜ NibbleTables (now tables) ⌝ }
+    ensures { λ r. ⌜ r ≡ bitSteps 32 (bitsEnter 32 0 bytes) ⌝ }
+{
+    nibble(tables, 8, bytes)
+        ^ nibble(tables, 9, bytes >> 4)
+        ^ nibble(tables, 10, bytes >> 8)
+        ^ nibble(tables, 11, bytes >> 12)
+        ^ nibble(tables, 12, bytes >> 16)
+        ^ nibble(tables, 13, bytes >> 20)
+        ^ nibble(tables, 14, bytes >> 24)
+        ^ nibble(tables, 15, bytes >> 28)
 }
 
 // The entry of table j for the last four bits of i.
