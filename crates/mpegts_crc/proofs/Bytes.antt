@@ -1,4 +1,4 @@
--- The CRC over bytes: a turn of a loop and its end, two runs one after the other, and that it fits the register.
+-- The CRC over bytes: two runs one after the other, bytes as one number, a turn of a loop and its end, and that it fits the register.
 -- Assumes nothing.
 use mathlib.Core.Path.{_≡_, refl, sym, ap, ap₂, _∙_, subst}
 use mathlib.Core.List.{List, [], _∷_, _++_}
@@ -65,7 +65,7 @@ eight-turn {next} register bytes at l h step p =
     ∙ word-turn (bitsEnter 32 register (wordOf bytes at 4)) bytes (at + 4) (omega arith) h step
     (word-turn register bytes at (omega arith) h refl p)
 
--- its end
+-- the end of such a loop
 pub done : {register whole : ℕ} (bytes : List ℕ) (i : ℕ) → length bytes ≤ i
     → crcFrom register (drop i bytes) ≡ whole → register ≡ whole
 unfolding crcFrom

@@ -60,7 +60,7 @@ four-more n bits =
     (ap (bitSteps (n * 4)) (enter-top 4 28 refl 0 ahead ∙ ap (bitSteps 4) (xor-zero-l top)) ∙ steps-join 4 (n * 4) top
     ∙ ap (λ w. bitSteps w top) (sym q))
 
--- ---- the same where so many fours are behind them
+-- ---- the same with so many fours behind them
 
 steps-zero : (k : ℕ) → bitSteps k 0 ≡ 0
 unfolding bitSteps bitStep _plusPolynomialIf_

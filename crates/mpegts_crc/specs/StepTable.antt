@@ -14,10 +14,10 @@ entryOf k i = bitSteps k (i * 2 ^ (32 - k))
 pub record StepTable (k : ℕ) (table : List ℕ) : Type 0 where
   pub entry : (i : ℕ) → i < 2 ^ k → getD table i 0 ≡ entryOf k i
 
--- four bits i placed in the top four, with the steps that bring them and the 4 * j bits behind them through the register
+-- what four bits i bring with j times four bits behind them: the bit steps of all these on i placed in the top four bits
 abbrev pub nibbleEntry : ℕ → ℕ → ℕ
 nibbleEntry j i = bitSteps ((j + 1) * 4) (i * 2 ^ 28)
 
--- sixteen tables, one for each four bits of 64
+-- sixteen tables, one for each four bits of 64: entry i of table j is that of i with j times four bits behind it
 pub record NibbleTables (tables : List (List ℕ)) : Type 0 where
   pub entry : (j i : ℕ) → j < 16 → i < 16 → getD (getD tables j []) i 0 ≡ nibbleEntry j i

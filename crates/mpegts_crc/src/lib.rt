@@ -43,7 +43,7 @@ fn eight_bytes_enter(tables: &[[u32; 16]; 16], register: u32, first: u64, second
     four_last(tables, second) ^ four_ahead(tables, register as u64 ^ first)
 }
 
-// What four bytes bring into a register of zero.
+// What four bytes bring into a register of zero: the sum of what each four bits of them bring.
 fn four_last(tables: &[[u32; 16]; 16], bytes: u64) -> u32
     requires { ⌜ NibbleTables (now tables) ⌝ }
     ensures { λ r. ⌜ r ≡ bitsEnter 32 0 bytes ⌝ }
@@ -58,7 +58,7 @@ fn four_last(tables: &[[u32; 16]; 16], bytes: u64) -> u32
         ^ nibble(tables, 7, bytes >> 28)
 }
 
-// The same of four bytes with four others behind them.
+// The same of four bytes that have four others behind them.
 fn four_ahead(tables: &[[u32; 16]; 16], bytes: u64) -> u32
     requires { ⌜ NibbleTables (now tables) ⌝ }
     ensures { λ r. ⌜ r ≡ bitSteps 32 (bitsEnter 32 0 bytes) ⌝ }
@@ -73,7 +73,7 @@ fn four_ahead(tables: &[[u32; 16]; 16], bytes: u64) -> u32
         ^ nibble(tables, 15, bytes >> 28)
 }
 
-// The entry of table j for the last four bits of i.
+// What the last four bits of i bring with j times four bits behind them.
 fn nibble(tables: &[[u32; 16]; 16], j: usize, i: u64) -> u32
     requires { ⌜ NibbleTables (now tables) × (j < 16) ⌝ }
     ensures { λ r. ⌜ r ≡ nibbleEntry j (i % 16) ⌝ }
@@ -89,7 +89,7 @@ fn byte_enters(table: &[u32; 256], register: u32, byte: u8) -> u32
     (register << 8) ^ entry(table, ((register >> 24) ^ byte as u32) as u64)
 }
 
-// The table's entry i, which is the sum of two others: one for each four bits of i.
+// The table's entry i, as the sum of two others: one for each four bits of i.
 fn entry(table: &[u32; 256], i: u64) -> u32
     requires { ⌜ StepTable 8 (now table) × (i < 256) ⌝ }
     ensures { λ r. ⌜ r ≡ entryOf 8 i ⌝ }
@@ -97,7 +97,7 @@ fn entry(table: &[u32; 256], i: u64) -> u32
     picked(every(table, 1), i) ^ picked(every(table, 16), i >> 4)
 }
 
-// Sixteen entries, so many places apart.
+// Sixteen entries of the table, so many places apart.
 fn every(table: &[u32; 256], apart: usize) -> [u32; 16]
     requires { ⌜ apart ≤ 16 ⌝ }
     ensures { λ r. ⌜ ((i : ℕ) → i < 16 → getD r i 0 ≡ getD (now (table .entry)) (i * apart) 0) ⌝ }
@@ -109,8 +109,8 @@ fn every(table: &[u32; 256], apart: usize) -> [u32; 16]
     row
 }
 
-// The row's entry for the last four bits of i. Where the row is a constant the `match` becomes a table in read-only data; an index would have
-// the whole constant copied to the stack in each call.
+// The row's entry for the last four bits of i. Of a row that is known when this is compiled, the `match` becomes a table in read-only data; an
+// index would copy the row, and all that it was taken from, to the stack in each call.
 fn picked(row: [u32; 16], i: u64) -> u32
     ensures { λ r. ⌜ r ≡ getD row (i % 16) 0 ⌝ }
 {
@@ -134,7 +134,7 @@ fn picked(row: [u32; 16], i: u64) -> u32
     }
 }
 
-// Table j is for the four bits that have 4 * j bits behind them: its entry i is 4 * (j + 1) bit steps on i placed in the top four bits.
+// Entry i of table j is 4 * (j + 1) bit steps on i placed in the top four bits: what i brings with j times four bits behind it.
 const NIBBLE_TABLES: [[u32; 16]; 16] = [
     [
         0x00000000,

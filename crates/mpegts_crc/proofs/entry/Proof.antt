@@ -1,4 +1,4 @@
--- `mpegts_crc::entry` meets its contract. Assumes nothing.
+-- `mpegts_crc::entry` meets its contract: the table's rule at both entries, and a byte as two fours. Assumes nothing.
 use mathlib.Core.Path.{_≡_, sym, ap₂, _∙_}
 use Prim.Native.Nat.{_*_, _/_, _%_, _<_}
 use native.Mathlib.Omega.{arith}
