@@ -265,7 +265,8 @@ JambpepperPlace jambpepper_section(const uint8_t *packet, size_t packet_length,
                                    const uint8_t *buffer, size_t buffer_length, uint8_t answer,
                                    JambpepperPlace place);
 
-/* The first byte of a place that jambpepper_section gave for these bytes. */
+/* The first byte of a place: one that jambpepper_section gave for these bytes, or a step's own
+ * where it delivered. */
 static inline const uint8_t *jambpepper_section_bytes(JambpepperPlace place, const uint8_t *packet,
                                                       const uint8_t *buffer) {
   return (place.holder == JAMBPEPPER_IN_BUFFER ? buffer : packet) + place.start;
