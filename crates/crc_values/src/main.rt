@@ -1,5 +1,6 @@
 // Compares sum32 with the values of a list that tests/crc/make-values made, and says how many were compared and which differ.
 // The list is vector after vector: the number of bytes, the bytes, their CRC. Numbers have four bytes, most significant first.
+use fields::word;
 use libc::STDIN_FILENO;
 use libc::STDOUT_FILENO;
 ghost use mathlib.Core.Path.{_≡_};
@@ -51,7 +52,7 @@ fn compare_next(list: &[u8], tally: Tally) -> Tally
     if left < 8 {
         return cut_short(list.len(), tally);
     }
-    let count = number(list, at) as usize;
+    let count = word(list, at, 4) as usize;
     if left - 8 < count {
         return cut_short(list.len(), tally);
     }
@@ -60,8 +61,8 @@ fn compare_next(list: &[u8], tally: Tally) -> Tally
     let compared = tally.compared + 1;
     let differs = compare(
         compared,
-        mpegts_crc::sum32(&list[from..to]),
-        number(list, to),
+        mpegts_crc::sum32(&list[from..to]) as u64,
+        word(list, to, 4),
     );
     Tally {
         at: to + 4,
@@ -83,7 +84,7 @@ fn cut_short(size: usize, tally: Tally) -> Tally
 }
 
 // 1 where the two differ, and then it says so.
-fn compare(vector: usize, found: u32, listed: u32) -> usize
+fn compare(vector: usize, found: u64, listed: u64) -> usize
     ensures { λ r. ⌜ r < 2 ⌝ }
 {
     if found == listed {
@@ -92,24 +93,11 @@ fn compare(vector: usize, found: u32, listed: u32) -> usize
     say(b"Vector ");
     say_number(vector);
     say(b": ");
-    io::print_hex(STDOUT_FILENO, found as u64, 8);
+    io::print_hex(STDOUT_FILENO, found, 8);
     say(b", and the list has ");
-    io::print_hex(STDOUT_FILENO, listed as u64, 8);
+    io::print_hex(STDOUT_FILENO, listed, 8);
     say(b".\n");
     1
-}
-
-fn number(list: &[u8], at: usize) -> u32
-    requires { ⌜ at + 4 ≤ length (now list) ⌝ }
-{
-    (wide(list[at]) << 24)
-        | (wide(list[at + 1]) << 16)
-        | (wide(list[at + 2]) << 8)
-        | wide(list[at + 3])
-}
-
-fn wide(byte: u8) -> u32 {
-    byte as u32
 }
 
 fn say_tally(tally: Tally) {

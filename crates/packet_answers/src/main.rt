@@ -11,6 +11,7 @@ use adaptation::ClockAnswer;
 use adaptation::SpliceCountdown;
 use adaptation::TransportPrivateData;
 use answers::Refusal;
+use fields::word;
 use libc::STDIN_FILENO;
 use libc::STDOUT_FILENO;
 use packet::ContinuityCounter;
@@ -54,7 +55,7 @@ fn answer_packet(room: &mut [u8]) -> bool {
     if io::read_full(STDIN_FILENO, &mut size) < 4 {
         return cut_short();
     }
-    let n = number(&size);
+    let n = word(&size, 0, 4) as usize;
     if n > room.len() {
         return stop(b"A packet of more than 65536 bytes is not taken.\n");
     }
@@ -73,7 +74,7 @@ fn answer_counters() -> bool {
     let follows = ContinuityCounter::follows(pair[0], pair[1]);
     let mut space = [0u8; LINE];
     let line: &mut [u8] = &mut space;
-    let end = put(line, 0, &[one_if(follows)]);
+    let end = put(line, 0, &[follows as u64]);
     say_line(line, end);
     true
 }
@@ -85,14 +86,6 @@ fn cut_short() -> bool {
 fn stop(why: &[u8]) -> bool {
     io::write_all(STDOUT_FILENO, why);
     false
-}
-
-fn number(bytes: &[u8; 4]) -> usize {
-    (wide(bytes[0]) << 24) | (wide(bytes[1]) << 16) | (wide(bytes[2]) << 8) | wide(bytes[3])
-}
-
-fn wide(byte: u8) -> usize {
-    byte as usize
 }
 
 fn say_packet(packet: &[u8]) {
@@ -121,9 +114,9 @@ fn header(packet: &[u8]) -> [u64; 8] {
     match answer {
         HeaderAnswer::Is(header) => [
             0,
-            one_if(header.transport_error_indicator),
-            one_if(header.payload_unit_start_indicator),
-            one_if(header.transport_priority),
+            header.transport_error_indicator as u64,
+            header.payload_unit_start_indicator as u64,
+            header.transport_priority as u64,
             header.pid as u64,
             header.transport_scrambling_control as u64,
             header.adaptation_field_control as u64,
@@ -149,14 +142,14 @@ fn adaptation_field(packet: &[u8]) -> [u64; 10] {
         AdaptationFieldAnswer::Is(field) => [
             0,
             field.adaptation_field_length as u64,
-            one_if(field.discontinuity_indicator),
-            one_if(field.random_access_indicator),
-            one_if(field.elementary_stream_priority_indicator),
-            one_if(field.pcr_flag),
-            one_if(field.opcr_flag),
-            one_if(field.splicing_point_flag),
-            one_if(field.transport_private_data_flag),
-            one_if(field.adaptation_field_extension_flag),
+            field.discontinuity_indicator as u64,
+            field.random_access_indicator as u64,
+            field.elementary_stream_priority_indicator as u64,
+            field.pcr_flag as u64,
+            field.opcr_flag as u64,
+            field.splicing_point_flag as u64,
+            field.transport_private_data_flag as u64,
+            field.adaptation_field_extension_flag as u64,
         ],
         AdaptationFieldAnswer::Refused(refusal) => [number_of(refusal), 0, 0, 0, 0, 0, 0, 0, 0, 0],
     }
@@ -187,10 +180,6 @@ fn transport_private_data(packet: &[u8]) -> [u64; 3] {
 
 fn number_of(refusal: Refusal) -> u64 {
     refusal.number() as u64
-}
-
-fn one_if(yes: bool) -> u64 {
-    if yes { 1 } else { 0 }
 }
 
 // Puts the numbers into the line from `start` on, and answers where they end.

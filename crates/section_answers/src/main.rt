@@ -3,6 +3,7 @@
 // Numbers have their most significant byte first.
 use answers::Answer;
 use answers::Refusal;
+use fields::word;
 use libc::STDIN_FILENO;
 use libc::STDOUT_FILENO;
 use pat::PatSection;
@@ -60,8 +61,8 @@ fn answer_next() -> bool {
     if read < FRONT {
         return stop(b"The last request is cut short.\n");
     }
-    let position = double(number(&front, 0), number(&front, 4)) as usize;
-    let count = number(&front, 8) as usize;
+    let position = word(&front, 0, 8) as usize;
+    let count = word(&front, 8, 4) as usize;
     if count > MOST_BYTES {
         return stop(b"A request has more bytes than this program takes.\n");
     }
@@ -83,23 +84,6 @@ fn answer_bytes(bytes: &mut [u8], position: usize) -> bool {
 fn stop(why: &[u8]) -> bool {
     io::write_all(STDOUT_FILENO, why);
     false
-}
-
-fn number(bytes: &[u8], at: usize) -> u32
-    requires { ⌜ at + 4 ≤ length (now bytes) ⌝ }
-{
-    (wide(bytes[at]) << 24)
-        | (wide(bytes[at + 1]) << 16)
-        | (wide(bytes[at + 2]) << 8)
-        | wide(bytes[at + 3])
-}
-
-fn wide(byte: u8) -> u32 {
-    byte as u32
-}
-
-fn double(high: u32, low: u32) -> u64 {
-    ((high as u64) << 32) | (low as u64)
 }
 
 // The calls on the bytes as a section, and then on the bytes as a body: the walks from the position, the PMT's start, and the

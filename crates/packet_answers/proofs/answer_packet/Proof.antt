@@ -18,8 +18,11 @@ cut-short-requires c κs = search needs
 returns : tie.Need-returns
 returns c = search needs
 
-number-requires : tie.Need-number-requires
-number-requires c κs = search needs
+slice-aggregate-word : tie.Need-slice-aggregate-word
+slice-aggregate-word c = search needs
+
+word-requires : tie.Need-word-requires
+word-requires c κs = search needs
 
 slice-aggregate-stop : tie.Need-slice-aggregate-stop
 slice-aggregate-stop c = search needs
@@ -71,7 +74,8 @@ answer-packet-spec =
     read-full-requires
     cut-short-requires
     returns
-    number-requires
+    slice-aggregate-word
+    word-requires
     slice-aggregate-stop
     stop-requires
     returns-2
