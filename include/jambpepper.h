@@ -3,8 +3,8 @@
  *
  * Every call takes any bytes, of any length, and any numbers; it ends with what
  * was asked or with the number of an answer below. What each does is stated and
- * proved in crates/capi. The proofs end where C begins, so a host must see to
- * this:
+ * proved in the crates capi_*. The proofs end where C begins, so a host must see
+ * to this:
  *
  * - a pointer and a length lend that many bytes: they exist, and nothing else
  * writes them during the call. A pointer is not null, even where its length is
@@ -17,7 +17,7 @@
  * Nothing is kept between calls: the state is the host's, and any number of
  * readers may be worked side by side.
  *
- * Link libcapi.a, which `rt staticlib capi` writes. It needs no other library.
+ * Link libjambpepper.a, which `build-library` writes. It needs no other library.
  */
 #ifndef JAMBPEPPER_H
 #define JAMBPEPPER_H

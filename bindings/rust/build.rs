@@ -1,4 +1,4 @@
-//! Links libcapi.a, which `rt staticlib capi` writes to target/staticlib of the repository. JAMBPEPPER_LIB names another folder.
+//! Links libjambpepper.a, which `build-library` writes to target/staticlib of the repository. JAMBPEPPER_LIB names another folder.
 use std::{env, path::PathBuf};
 
 fn main() {
@@ -9,14 +9,14 @@ fn main() {
             PathBuf::from(env::var_os("CARGO_MANIFEST_DIR").unwrap()).join("../../target/staticlib")
         }
     };
-    let library = folder.join("libcapi.a");
+    let library = folder.join("libjambpepper.a");
     if !library.exists() {
         panic!(
-            "{} is not there: run `rt staticlib capi` in the repository, or set JAMBPEPPER_LIB to its folder",
+            "{} is not there: run `./build-library` in the repository, or set JAMBPEPPER_LIB to its folder",
             library.display()
         );
     }
     println!("cargo:rerun-if-changed={}", library.display());
     println!("cargo:rustc-link-search=native={}", folder.display());
-    println!("cargo:rustc-link-lib=static=capi");
+    println!("cargo:rustc-link-lib=static=jambpepper");
 }

@@ -1,7 +1,7 @@
 /*
  * pat: prints every PAT of the transport stream in a file, one line each.
  *
- *   cc -Iinclude -o pat examples/c/pat.c target/staticlib/libcapi.a
+ *   cc -Iinclude -o pat examples/c/pat.c target/staticlib/libjambpepper.a
  *   ./pat capture/line-up-change.ts
  */
 #include "jambpepper.h"

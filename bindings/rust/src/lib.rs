@@ -50,7 +50,7 @@
 //! # Ok::<(), jambpepper::Refusal>(())
 //! ```
 //!
-//! The library is `libcapi.a`, which `rt staticlib capi` writes to the repository's `target/staticlib`; where it lies elsewhere,
+//! The library is `libjambpepper.a`, which `build-library` writes to the repository's `target/staticlib`; where it lies elsewhere,
 //! the variable `JAMBPEPPER_LIB` names its folder while this crate is built. It needs no other library.
 
 #![deny(unsafe_code)]

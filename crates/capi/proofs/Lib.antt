@@ -1,5 +1,0 @@
-pub mod Flags
-pub mod States
-pub mod SectionsForC
-pub mod HandedBack
-pub mod Determined

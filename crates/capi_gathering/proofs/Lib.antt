@@ -1,0 +1,4 @@
+pub mod States
+pub mod SectionsForC
+pub mod HandedBack
+pub mod Determined

@@ -1,0 +1,42 @@
+-- `capi_gathering::jambpepper_is_sound` meets its contract: a state is sound if it names a reader that is. Assumes nothing.
+use mathlib.Core.Path.{sym, ap, _∙_}
+use Rattle.fields.specs.Choice.{if_then_else_}
+use Rattle.fields.proofs.Choices.{test-holds}
+use Rattle.reader.specs.State.{sound}
+use Rattle.capi_numbers.specs.Numbers.{flag}
+use Rattle.capi_gathering.specs.Gathering.{soundForC}
+use Rattle.capi_numbers.proofs.Flags.{byte-is-flag}
+use borrow.Author.Needs.{needs}
+use Rattle.capi_gathering.proofs.jambpepper_is_sound.Statement.{statement}
+use Rattle.capi_gathering.proofs.jambpepper_is_sound.Tie as tie
+
+names-reader-requires : tie.Need-names-reader-requires
+names-reader-requires c κs = search needs
+
+reader-from-c-requires : tie.Need-reader-from-c-requires
+reader-from-c-requires c κs = search needs
+
+is-sound-requires : tie.Need-is-sound-requires
+is-sound-requires c κs = search needs
+
+cast-result : tie.Need-cast-result
+cast-result c = search needs
+
+returns : tie.Need-returns
+unfolding soundForC
+returns c = byte-is-flag _ ∙ ap flag (c .is-sound .ensures ∙ ap sound (c .before .reader-from-c .ensures) ∙ sym (test-holds _ _ _ (sym (c .before .before .before .names-reader .ensures) ∙ c .before .before .if1 .taken)))
+
+returns-2 : tie.Need-returns-2
+unfolding soundForC flag if_then_else_
+returns-2 c = simp (← c .before .names-reader .ensures, c .if1 .left)
+
+pub jambpepper-is-sound-spec : {M : Type 1} → statement M
+jambpepper-is-sound-spec =
+    tie.close
+    (tie.spec
+    names-reader-requires
+    reader-from-c-requires
+    is-sound-requires
+    cast-result
+    returns
+    returns-2)

@@ -1,0 +1,39 @@
+-- `capi_walks::jambpepper_program_at` meets its contract: each case of the answer is what is said of it. Assumes nothing.
+use mathlib.Core.Path.{sym, ap, _∙_}
+use Rattle.pat.specs.Programs.{programSays}
+use borrow.Author.Needs.{needs}
+use Rattle.capi_walks.proofs.jambpepper_program_at.Statement.{statement}
+use Rattle.capi_walks.proofs.jambpepper_program_at.Tie as tie
+
+program-at-requires : tie.Need-program-at-requires
+program-at-requires c κs = search needs
+
+enum-known-program : tie.Need-enum-known-program
+enum-known-program c = search needs
+
+found-program-requires : tie.Need-found-program-requires
+found-program-requires c κs = search needs
+
+enum-known-refusal : tie.Need-enum-known-refusal
+enum-known-refusal c = search needs
+
+number-requires : tie.Need-number-requires
+number-requires c κs = search needs
+
+returns : tie.Need-returns
+returns c = simp (c .found-program .ensures, sym (sym (ap programSays (c .before .before .program .given .1)) ∙ c .before .before .before .before .program-at .ensures))
+
+returns-2 : tie.Need-returns-2
+returns-2 c = simp (c .number .ensures, sym (sym (ap programSays (c .before .before .refusal .given .1)) ∙ c .before .before .before .before .program-at .ensures))
+
+pub jambpepper-program-at-spec : {M : Type 1} → statement M
+jambpepper-program-at-spec =
+    tie.close
+    (tie.spec
+    program-at-requires
+    enum-known-program
+    found-program-requires
+    enum-known-refusal
+    number-requires
+    returns
+    returns-2)
