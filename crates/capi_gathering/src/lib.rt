@@ -1,5 +1,7 @@
 // The C face of gathering: the state, both steps, the reading of a delivered section.
+ghost use Prim.Native.Nat.{_≤_};
 ghost use mathlib.Core.Path.{_≡_};
+ghost use mathlib.Core.Bool.{true};
 ghost use Rattle.reader.specs.Tail.{tailOf};
 ghost use Rattle.reader.specs.Head.{headOf};
 ghost use Rattle.capi_numbers.specs.Numbers.{flag};
@@ -49,14 +51,17 @@ fn form_number(form: Form) -> u8
     }
 }
 
-// The form of a number that names one. (A `match` with an arm for each number costs nothing once it is compiled.)
-fn form_of(number: u8) -> Form
+// The form of a number that names one. No number comes to the last arm: with a form from outside there, the compiler keeps an arm for each number, and
+// then sees that a form is its number.
+fn form_of(number: u8, other: Form) -> Form
+    requires { ⌜ number ≤ 2 ⌝ }
     ensures { λ r. ⌜ r ≡ formOf number ⌝ }
 {
     match number {
         0 => Form::Compact,
         1 => Form::Full,
-        _ => Form::Once,
+        2 => Form::Once,
+        _ => other,
     }
 }
 
@@ -94,17 +99,18 @@ fn names_reader(reader: JambpepperReader) -> bool
     false
 }
 
-// The reader that such a state names.
+// The reader that such a state names. (Of a flag that is 0 or 1 the last bit is enough, which costs no comparison.)
 fn reader_from_c(reader: JambpepperReader) -> Reader
+    requires { ⌜ namesReader reader ≡ true ⌝ }
     ensures { λ r. ⌜ r ≡ readerFromC reader ⌝ }
 {
     Reader {
-        form: form_of(reader.form),
+        form: form_of(reader.form, Form::Compact),
         memory: Memory {
-            known: reader.known == 1,
+            known: reader.known % 2 == 1,
             version: reader.version,
         },
-        is_open: reader.is_open == 1,
+        is_open: reader.is_open % 2 == 1,
         held: reader.held,
         wanted: reader.wanted,
     }
@@ -179,7 +185,7 @@ pub extern "C" fn jambpepper_fresh(form: u8) -> JambpepperReader
     ensures { λ r. ⌜ r ≡ freshForC form ⌝ }
 {
     if form <= 2 {
-        return reader_for_c(Reader::fresh(form_of(form)));
+        return reader_for_c(Reader::fresh(form_of(form, Form::Compact)));
     }
     JambpepperReader {
         form,

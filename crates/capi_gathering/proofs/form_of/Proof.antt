@@ -1,5 +1,6 @@
--- `capi_gathering::form_of` meets its contract: each arm is the form that its number names. Assumes nothing.
-use borrow.Author.Tests.{eq-eqb, ne-eqb}
+-- `capi_gathering::form_of` meets its contract: each arm is the form that its number names, and none is left for the last. Assumes nothing.
+use native.Mathlib.Omega.{arith}
+use borrow.Author.Tests.{eq-eqb}
 use Rattle.fields.specs.Choice.{if_then_else_}
 use Rattle.capi_gathering.specs.Gathering.{formOf}
 use Rattle.capi_gathering.proofs.form_of.Statement.{statement}
@@ -15,7 +16,10 @@ returns-2 c = simp (c .match .keys2)
 
 returns-3 : tie.Need-returns-3
 unfolding formOf if_then_else_
-returns-3 c = simp (ne-eqb _ _ (c .match .rest .0 .1), ne-eqb _ _ (c .match .rest .1))
+returns-3 c = simp (c .match .keys3)
+
+returns-4 : tie.Need-returns-4
+returns-4 c = absurd (omega arith)
 
 pub form-of-spec : {M : Type 1} → statement M
-form-of-spec = tie.close (tie.spec returns returns-2 returns-3)
+form-of-spec = tie.close (tie.spec returns returns-2 returns-3 returns-4)

@@ -10,7 +10,7 @@ names-reader-requires : tie.Need-names-reader-requires
 names-reader-requires c κs = search needs
 
 reader-from-c-requires : tie.Need-reader-from-c-requires
-reader-from-c-requires c κs = search needs
+reader-from-c-requires c κs = sym (c .before .names-reader .ensures) ∙ c .if1 .taken
 
 head-requires : tie.Need-head-requires
 head-requires c κs = search needs

@@ -14,7 +14,7 @@ names-reader-requires : tie.Need-names-reader-requires
 names-reader-requires c κs = search needs
 
 reader-from-c-requires : tie.Need-reader-from-c-requires
-reader-from-c-requires c κs = search needs
+reader-from-c-requires c κs = sym (c .before .names-reader .ensures) ∙ c .if1 .taken
 
 is-sound-requires : tie.Need-is-sound-requires
 is-sound-requires c κs = search needs

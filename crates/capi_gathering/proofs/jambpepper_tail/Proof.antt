@@ -10,7 +10,7 @@ names-reader-requires : tie.Need-names-reader-requires
 names-reader-requires c κs = search needs
 
 reader-from-c-requires : tie.Need-reader-from-c-requires
-reader-from-c-requires c κs = search needs
+reader-from-c-requires c κs = sym (c .before .names-reader .ensures) ∙ c .if1 .taken
 
 tail-requires : tie.Need-tail-requires
 tail-requires c κs = search needs
