@@ -2,12 +2,11 @@
 -- are added to the register, `register-added`. Assumes nothing.
 use mathlib.Core.Path.{_≡_, refl, sym, ap, ap₂, _∙_}
 use Prim.Native.Nat.{ℕ, zero, suc, _+_, _*_, _/_, _%_, _^_, _<_}
-use native.Mathlib.Nat.{zero-add, suc-add, mul-one, zero-div, div-one, mod-lt, mod-eq-of-lt}
+use native.Mathlib.Nat.{zero-add, suc-add, mul-one, zero-div, div-one, mod-eq-of-lt}
 use native.Mathlib.Omega.{arith}
-use lib.Pow.{pow-pos, split}
-use lib.Bits.{bitXor, xor-shr, xor-mod, xor-shifted, xor-comm, xor-zero-l, xor-zero-r}
+use lib.Bits.{bitXor, xor-shr, xor-mod, xor-comm, xor-zero-l, xor-zero-r}
 use Rattle.mpegts_crc.specs.Crc.{_plusPolynomialIf_, bitStep, bitSteps, bitEnters, bitsEnter}
-use Rattle.mpegts_crc.specs.StepTable.{entryOf, nibbleEntry}
+use Rattle.mpegts_crc.specs.NibbleTables.{nibbleEntry}
 use Rattle.mpegts_crc.proofs.Xor.{xor-swap, xor-shl}
 use Rattle.mpegts_crc.proofs.Steps.{step-xor, steps-xor, enter-top, enter-join}
 
@@ -99,14 +98,3 @@ register-added register n h =
     (sym (enter-top 32 0 refl 0 register
     ∙ ap (bitSteps 32) (xor-zero-l (register % 2 ^ 32 * 1) ∙ mul-one (register % 2 ^ 32) ∙ mod-eq-of-lt h)))
     ∙ sym (enter-xor 32 0 0 register n)
-
--- ---- a byte as two fours
-
-pub two-fours : (i : ℕ) → i < 256 → bitXor (entryOf 8 (i % 16 * 1)) (entryOf 8 (i / 16 % 16 * 16)) ≡ entryOf 8 i
-two-fours i h =
-    let low : ℕ = i % 16 in
-    let high : ℕ = i / 16 * 16 in
-    ap₂ (λ x y. bitXor (entryOf 8 x) (entryOf 8 (y * 16))) (mul-one low) (mod-eq-of-lt (let q : i / 16 < 16 = omega arith in q))
-    ∙ xor-comm (entryOf 8 low) (entryOf 8 high) ∙ sym (steps-xor 8 (high * 2 ^ 24) (low * 2 ^ 24))
-    ∙ ap (bitSteps 8) (sym (xor-shl high low 24))
-    ∙ ap (entryOf 8) (xor-shifted (i / 16) 4 low (mod-lt i (pow-pos 4)) ∙ split i 4)

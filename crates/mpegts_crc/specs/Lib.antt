@@ -1,3 +1,3 @@
 pub mod Crc
-pub mod StepTable
+pub mod NibbleTables
 pub mod Cases

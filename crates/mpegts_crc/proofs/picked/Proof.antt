@@ -1,23 +1,12 @@
 -- `mpegts_crc::picked` meets its contract: each arm reads the place that it stands for. Assumes nothing.
 use mathlib.Core.Path.{_≡_, sym, ap}
-use Prim.Native.Nat.{ℕ, zero, suc, _%_, _≤_}
+use Prim.Native.Nat.{ℕ, _%_}
 use native.Mathlib.Omega.{arith}
 use lib.Dec.{lit<}
 use lib.ListN.{getD}
+use Rattle.mpegts_crc.proofs.LastArm.{past}
 use Rattle.mpegts_crc.proofs.picked.Statement.{statement}
 use Rattle.mpegts_crc.proofs.picked.Tie as tie
-
--- n is none of the first k numbers, as the last arm has it, and so k at least
-abbrev NoneBelow : ℕ → ℕ → Type 0
-NoneBelow zero n = Unit {0}
-NoneBelow (suc k) n = NoneBelow k n × (n ≡ k → ⊥)
-
-past : (k n : ℕ) → NoneBelow k n → k ≤ n
-past zero n h = omega arith
-past (suc k) n h =
-    let p : k ≤ n = past k n (h .0) in
-    let q : n ≡ k → ⊥ = h .1 in
-    omega arith
 
 at : (c : tie.Start) (k : ℕ) → c .args .i % 16 ≡ k → getD (c .args .t1) k 0 ≡ getD (c .args .t1) (c .args .i % 16) 0
 at c k e = ap (λ i. getD (c .args .t1) i 0) (sym e)

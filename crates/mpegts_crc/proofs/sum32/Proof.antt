@@ -1,28 +1,63 @@
--- `mpegts_crc::sum32` meets its contract: at each turn the CRC of the bytes left, from the register, is the CRC of all. Assumes nothing.
-use mathlib.Core.Path.{_≡_, refl, ap₂, _∙_}
-use Prim.Native.Nat.{_+_, _-_, _≤_}
+-- `mpegts_crc::sum32` meets its contract: before each turn the CRC of all is that of the bytes left, from the register that the turn gives.
+-- Assumes nothing.
+use mathlib.Core.Path.{_≡_, refl, ap, _∙_}
+use Prim.Native.Nat.{_+_, _-_, _%_, _≤_}
 use native.Mathlib.Omega.{arith}
 use borrow.Author.Needs.{needs}
 use denote.Ref.{now}
 use lib.ListN.{length, drop}
-use Rattle.mpegts_crc.specs.Crc.{_plusPolynomialIf_, bitStep, bitSteps, bitsEnter, crcFrom, crcOf}
-use Rattle.mpegts_crc.proofs.Bytes.{eight-turn}
-use Rattle.mpegts_crc.proofs.Table.{nibble-tables}
+use Rattle.mpegts_crc.specs.Crc.{bitsEnter, crcFrom, crcOf}
+use Rattle.mpegts_crc.proofs.Bytes.{first-turn, eight-turn, done}
 use Rattle.mpegts_crc.proofs.sum32.Statement.{statement}
 use Rattle.mpegts_crc.proofs.sum32.Tie as tie
 
 abbrev Inv-loop : tie.InvT-loop
-Inv-loop «data» register₀ at₀ t4 register at = (crcFrom register (drop at «data») ≡ crcOf «data») × (at ≤ length «data»)
+Inv-loop «data» padding register₀ second₀ first₀ at₀ register second first at =
+    (crcFrom (bitsEnter 32 (bitsEnter 32 register first) second) (drop at «data») ≡ crcOf «data»)
+    × (at ≤ length «data») × ((length «data» - at) % 8 ≡ 0)
 
 abbrev μ-loop : tie.MeasureT-loop
-μ-loop «data» register₀ at₀ t4 register at = length «data» - at
+μ-loop «data» padding register₀ second₀ first₀ at₀ register second first at = length «data» - at
+
+returns : tie.Need-returns Inv-loop μ-loop
+unfolding crcOf
+returns c = done (now (c .before .before .args .«data»)) 0 (omega arith) refl
+
+sub-padding : tie.Need-sub-padding Inv-loop μ-loop
+sub-padding c = search needs
+
+start-requires : tie.Need-start-requires Inv-loop μ-loop
+start-requires c κs = search needs
+
+padded-requires : tie.Need-padded-requires Inv-loop μ-loop
+padded-requires c κs = search needs
+
+sub-at : tie.Need-sub-at Inv-loop μ-loop
+sub-at c = search needs
 
 loop-holds : tie.Need-loop-holds Inv-loop μ-loop
-unfolding crcOf
-loop-holds c = (refl, search needs)
+loop-holds c =
+    let s = c .before .before .before in
+    let bytes = now (s .before .args .«data») in
+    let padding = (8 - length bytes % 8) % 8 in
+    let there : 8 - padding ≤ length bytes = omega arith in (
+      first-turn (c .before .start .result) bytes padding (omega arith) there (λ i. omega (arith, s .shared-slice-known .given i))
+          (c .before .start .ensures) (c .padded .ensures),
+      there,
+      omega arith,
+    )
 
-sub-loop : tie.Need-sub-loop Inv-loop μ-loop
-sub-loop c = search needs
+eight-bytes-enter-requires : tie.Need-eight-bytes-enter-requires Inv-loop μ-loop
+eight-bytes-enter-requires c κs = tt
+
+sub-if2 : tie.Need-sub-if2 Inv-loop μ-loop
+sub-if2 c = search needs
+
+returns-2 : tie.Need-returns-2 Inv-loop μ-loop
+returns-2 c =
+    let l = c .before .before in
+    let bytes = now (l .before .before .before .before .before .args .«data») in
+    c .before .eight-bytes-enter .ensures ∙ done bytes (l .loop .at) (omega (arith, l .loop .inv .1)) (l .loop .inv .0)
 
 word-requires : tie.Need-word-requires Inv-loop μ-loop
 word-requires c κs = tt
@@ -33,11 +68,6 @@ add-word c = search needs
 word-requires-2 : tie.Need-word-requires-2 Inv-loop μ-loop
 word-requires-2 c κs = tt
 
--- the test of the tables
-eight-bytes-enter-requires : tie.Need-eight-bytes-enter-requires Inv-loop μ-loop
-unfolding _plusPolynomialIf_ bitStep bitSteps
-eight-bytes-enter-requires c κs = nibble-tables refl
-
 add-at : tie.Need-add-at Inv-loop μ-loop
 add-at c = search needs
 
@@ -46,21 +76,17 @@ loop-less c = search needs
 
 loop-again : tie.Need-loop-again Inv-loop μ-loop
 loop-again c =
-    let l = c .before .before .before .before .before in
-    let d = l .before in
-    let bytes = now (d .before .args .«data») in
-    let next = c .eight-bytes-enter .ensures
-    ∙ ap₂ (λ x y. bitsEnter 32 (bitsEnter 32 (l .loop .register) x) y) (c .before .before .word .ensures) (c .before .word2 .ensures) in
-    let there : l .loop .at + 8 ≤ length bytes = omega (arith, l .loop .inv .1) in (
-      eight-turn (l .loop .register) bytes (l .loop .at) there (λ i. omega (arith, d .shared-slice-known .given i)) next (l .loop .inv .0),
-      search needs,
+    let e = c .before .before .before .eight-bytes-enter in
+    let l = c .before .before .before .before in
+    let s = l .before .before .before .before in
+    let bytes = now (s .before .args .«data») in
+    let at = l .loop .at in
+    let there : at + 8 ≤ length bytes = omega (arith, l .loop .inv .1) in (
+      eight-turn (e .result) bytes at there (λ i. omega (arith, s .shared-slice-known .given i)) (c .before .word .ensures) (c .word2 .ensures)
+          (ap (λ r. crcFrom r (drop at bytes)) (e .ensures) ∙ l .loop .inv .0),
+      there,
+      omega (arith, l .loop .inv .1),
     )
-
-bytes-enter-requires : tie.Need-bytes-enter-requires Inv-loop μ-loop
-bytes-enter-requires c κs = tt
-
-returns : tie.Need-returns Inv-loop μ-loop
-returns c = c .bytes-enter .ensures ∙ c .before .before .loop .inv .0
 
 pub sum32-spec : {M : Type 1} → statement M
 sum32-spec =
@@ -68,14 +94,18 @@ sum32-spec =
     (tie.spec
     Inv-loop
     μ-loop
+    returns
+    sub-padding
+    start-requires
+    padded-requires
+    sub-at
     loop-holds
-    sub-loop
+    eight-bytes-enter-requires
+    sub-if2
+    returns-2
     word-requires
     add-word
     word-requires-2
-    eight-bytes-enter-requires
     add-at
     loop-less
-    loop-again
-    bytes-enter-requires
-    returns)
+    loop-again)
