@@ -20,8 +20,8 @@ use Rattle.psi.specs.Walk.{foundAt}
 use Rattle.pat.specs.declared.ProgramDescriptor.{ProgramDescriptor}
 use Rattle.pat.specs.Programs.{programOf, programAt}
 use Rattle.pmt.specs.Streams.{streamOf, streamAt}
-use Rattle.gathering_rules.specs.declared.Form.{Form}
-use Rattle.gathering_rules.specs.Memory.{soundMemory, repeats}
+use Rattle.memory.specs.declared.Form.{Form}
+use Rattle.memory.specs.Memory.{soundMemory, repeats}
 use Rattle.gathering_rules.specs.Checks.{checked}
 use Rattle.gathering_rules.specs.Start.{startRefusal}
 use Rattle.reader.specs.State.{soundCounts, sound}

@@ -9,8 +9,8 @@ use Rattle.fields.proofs.Choices.{test-holds, of-both}
 use Rattle.answers.specs.Says.{Says}
 use Rattle.packet.specs.Header.{ofAPacket}
 use Rattle.packet.specs.Payload.{startingAt, payloadBehind}
-use Rattle.gathering_rules.specs.declared.Form.{Form}
-use Rattle.gathering_rules.specs.declared.Memory.{Memory}
+use Rattle.memory.specs.declared.Form.{Form}
+use Rattle.memory.specs.declared.Memory.{Memory}
 use Rattle.gathering_rules.specs.Checks.{checked, NotTheHosts}
 use Rattle.gathering_rules.specs.Start.{startRefusal}
 use Rattle.gathering_rules.specs.Verdict.{crcVerdict, verdict}

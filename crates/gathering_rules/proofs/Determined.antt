@@ -4,13 +4,9 @@ use Rattle.fields.specs.Determines.{Determines}
 use Rattle.answers.proofs.Saying.{same-values, same-refusal, given-is-not-refused}
 use Rattle.packet.specs.Payload.{payloadSays}
 use Rattle.packet.specs.declared.Payload.{Payload}
-use Rattle.gathering_rules.proofs.Memory.none.Reads as none
-use Rattle.gathering_rules.proofs.Memory.at_start.Reads as at-start
-use Rattle.gathering_rules.proofs.Memory.is_sound.Reads as is-sound
 use Rattle.gathering_rules.proofs.checked.Reads as checked
 use Rattle.gathering_rules.proofs.least_held.Reads as least-held
 use Rattle.gathering_rules.proofs.start_refusal.Reads as start-refusal
-use Rattle.gathering_rules.proofs.after_refusal.Reads as after-refusal
 use Rattle.gathering_rules.proofs.verdict.Reads as verdict
 
 one-payload : (x y : Payload) → payloadSays x ≡ payloadSays y → x ≡ y
@@ -18,15 +14,6 @@ one-payload (Payload.At m) (Payload.At n) e = ap Payload.At (same-values e)
 one-payload (Payload.At m) (Payload.Refused s) e = absurd (given-is-not-refused s e)
 one-payload (Payload.Refused r) (Payload.At n) e = absurd (given-is-not-refused r (sym e))
 one-payload (Payload.Refused r) (Payload.Refused s) e = ap Payload.Refused (same-refusal r s e)
-
-pub none-determined : Determines none.Post
-none-determined κs arguments x y x-exit y-exit p q = p ∙ sym q
-
-pub at-start-determined : Determines at-start.Post
-at-start-determined κs arguments x y x-exit y-exit p q = p ∙ sym q
-
-pub is-sound-determined : Determines is-sound.Post
-is-sound-determined κs arguments x y x-exit y-exit p q = p ∙ sym q
 
 pub checked-determined : Determines checked.Post
 checked-determined κs arguments x y x-exit y-exit p q = one-payload x y (p ∙ sym q)
@@ -36,9 +23,6 @@ least-held-determined κs arguments x y x-exit y-exit p q = p ∙ sym q
 
 pub start-refusal-determined : Determines start-refusal.Post
 start-refusal-determined κs arguments x y x-exit y-exit p q = p ∙ sym q
-
-pub after-refusal-determined : Determines after-refusal.Post
-after-refusal-determined κs arguments x y x-exit y-exit p q = p ∙ sym q
 
 pub verdict-determined : Determines verdict.Post
 verdict-determined κs arguments x y x-exit y-exit p q = p ∙ sym q

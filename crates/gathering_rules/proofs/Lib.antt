@@ -1,5 +1,4 @@
 pub mod Answering
 pub mod Checking
 pub mod Starts
-pub mod Remembering
 pub mod Determined

@@ -15,10 +15,10 @@ use Rattle.answers.specs.declared.Refusal.{Refusal}
 use Rattle.psi.specs.Header.{sectionLength, lengthLimit, fieldsOf, noHeader, headerOf}
 use Rattle.psi.specs.declared.SectionCommonHeader.{SectionCommonHeader}
 use Rattle.psi.proofs.Sections.{header-given, header-refused}
-use Rattle.gathering_rules.specs.Memory.{repeats}
+use Rattle.memory.specs.Memory.{repeats}
+use Rattle.memory.specs.declared.Form.{Form}
+use Rattle.memory.specs.declared.Memory.{Memory}
 use Rattle.gathering_rules.specs.Start.{leastHeld, takesSyntax, startRefusal}
-use Rattle.gathering_rules.specs.declared.Form.{Form}
-use Rattle.gathering_rules.specs.declared.Memory.{Memory}
 
 module _ (form : Form) (memory : Memory) (bytes : List ℕ) where
   pub start-without-header : (refusal : Refusal) → refused (numberOf refusal) noHeader ≡ headerOf bytes

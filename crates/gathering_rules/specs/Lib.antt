@@ -1,4 +1,3 @@
-pub mod Memory
 pub mod Checks
 pub mod Start
 pub mod Verdict

@@ -7,9 +7,9 @@ use Rattle.fields.specs.Choice.{if_then_else_, _isBelow_, _isAbove_}
 use Rattle.answers.specs.Numbers.{under3Bytes, syntaxIndicator, under8Bytes, lengthAbove1021, versionRepeated}
 use Rattle.psi.specs.Header as section
 use Rattle.psi.specs.Header.{sectionLength, lengthLimit}
-use Rattle.gathering_rules.specs.declared.Form.{Form}
-use Rattle.gathering_rules.specs.declared.Memory.{Memory}
-use Rattle.gathering_rules.specs.Memory.{repeats}
+use Rattle.memory.specs.declared.Form.{Form}
+use Rattle.memory.specs.declared.Memory.{Memory}
+use Rattle.memory.specs.Memory.{repeats}
 
 -- the bytes without which a section is not kept: the table header's eight, "(COMPACT: 3)"
 abbrev pub leastHeld : Form → ℕ

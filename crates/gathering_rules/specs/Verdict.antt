@@ -5,7 +5,7 @@ use lib.ListN.{length}
 use Rattle.fields.specs.Choice.{if_then_else_, _is_, _isBelow_}
 use Rattle.answers.specs.Numbers.{delivered, sectionUnder12, crcNotZero}
 use Rattle.mpegts_crc.specs.Crc.{crcOf}
-use Rattle.gathering_rules.specs.declared.Form.{Form}
+use Rattle.memory.specs.declared.Form.{Form}
 
 -- "under 12 bytes, 16; CRC remainder not zero, 17; else 2"
 unfoldable pub crcVerdict : List ℕ → ℕ

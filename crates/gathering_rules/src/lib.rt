@@ -1,102 +1,25 @@
-// What every reader of sections tests, and what it remembers: the checks before a step, what refuses the start of a section, and how a whole
-// section ends. The crate's src/psi/mod.rs.
+// What every reader of sections tests: the checks before a step, what refuses the start of a section, and how a whole section ends.
+// The crate's src/psi/mod.rs.
 ghost use mathlib.Core.Path.{_≡_};
 ghost use Rattle.packet.specs.Payload.{payloadSays};
-ghost use Rattle.gathering_rules.specs.Memory.{noMemory, soundMemory, versionOf, repeats, atStart, afterRefusal};
 ghost use Rattle.gathering_rules.specs.Checks.{checked};
 ghost use Rattle.gathering_rules.specs.Start.{leastHeld, takesSyntax, startRefusal};
 ghost use Rattle.gathering_rules.specs.Verdict.{crcVerdict, verdict};
 use answers::Answer;
 use answers::Refusal;
+use memory::Form;
+use memory::Memory;
 use mpegts_crc::sum32;
 use packet::HeaderAnswer;
 use packet::Packet;
 use packet::Payload;
 use psi::Section;
-use psi::TableHeaderAnswer;
-
-pub enum Form {
-    Compact,
-    Full,
-    Once,
-}
-
-// What ONCE remembers: a version, or none (then the number is 0).
-pub struct Memory {
-    pub known: bool,
-    pub version: u8,
-}
 
 // The buffer that a host lends.
 pub struct Buffer;
 
 impl Buffer {
     pub const SIZE: usize = 1024;
-}
-
-// The version in the table header, or 0 where there is none.
-fn version(section: &[u8]) -> u8
-    ensures { λ r. ⌜ r ≡ versionOf (now (section .entry)) ⌝ }
-{
-    match Section::table_header(section) {
-        TableHeaderAnswer::Is(header) => header.version,
-        TableHeaderAnswer::Refused(_) => 0,
-    }
-}
-
-impl Memory {
-    pub fn none() -> Self
-        ensures { λ r. ⌜ r ≡ noMemory ⌝ }
-    {
-        Memory {
-            known: false,
-            version: 0,
-        }
-    }
-
-    // Whether a section that starts with these bytes repeats what is remembered.
-    fn repeats(self, form: Form, bytes: &[u8]) -> bool
-        ensures { λ r. ⌜ r ≡ repeats form self (now (bytes .entry)) ⌝ }
-    {
-        match form {
-            Form::Compact => false,
-            Form::Full => false,
-            Form::Once => {
-                if self.known {
-                    return self.version == version(bytes);
-                }
-                false
-            }
-        }
-    }
-
-    // What is remembered once a section has started with these bytes.
-    pub fn at_start(self, form: Form, bytes: &[u8]) -> Memory
-        ensures { λ r. ⌜ r ≡ atStart form self (now (bytes .entry)) ⌝ }
-    {
-        match form {
-            Form::Compact => self,
-            Form::Full => self,
-            Form::Once => Memory {
-                known: true,
-                version: version(bytes),
-            },
-        }
-    }
-
-    pub fn is_sound(self, form: Form) -> bool
-        ensures { λ r. ⌜ r ≡ soundMemory form self ⌝ }
-    {
-        if self.known {
-            match form {
-                Form::Compact => false,
-                Form::Full => false,
-                Form::Once => self.version <= 31,
-            }
-        } else {
-            self.version == 0
-        }
-    }
 }
 
 // What every step tests first: the payload's place, or 3, 4, 5, 25, 6, 7, 8.
@@ -158,16 +81,6 @@ pub fn start_refusal(form: Form, memory: Memory, bytes: &[u8]) -> u8
         return 0;
     }
     Answer::SYNTAX_INDICATOR
-}
-
-// What is remembered where a start is refused.
-pub fn after_refusal(refusal: u8, memory: Memory) -> Memory
-    ensures { λ r. ⌜ r ≡ afterRefusal refusal memory ⌝ }
-{
-    if refusal == Answer::UNDER_3_BYTES {
-        return Memory::none();
-    }
-    memory
 }
 
 // 2, or why a whole section is refused: 16, 17.

@@ -10,9 +10,9 @@ use borrow.Author.Tests.{ltb-false}
 use Rattle.fields.specs.Choice.{if_then_else_}
 use Rattle.fields.proofs.LaidBytes.{laid-length, laid-up-to-end, laid-at-front}
 use Rattle.fields.proofs.Choices.{of-both}
-use Rattle.gathering_rules.specs.declared.Form.{Form}
-use Rattle.gathering_rules.specs.declared.Memory.{Memory}
-use Rattle.gathering_rules.specs.Memory.{atStart}
+use Rattle.memory.specs.declared.Form.{Form}
+use Rattle.memory.specs.declared.Memory.{Memory}
+use Rattle.memory.specs.Memory.{atStart}
 use Rattle.gathering_rules.proofs.Checking.{found-place}
 use Rattle.delivered.specs.Delivered.{partOf, partHeldBy, sectionOf}
 use Rattle.reader.specs.declared.Reader.{Reader}

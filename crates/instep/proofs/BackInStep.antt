@@ -7,7 +7,7 @@ use lib.ListN.{length, take}
 use Rattle.fields.specs.Choice.{if_then_else_}
 use Rattle.answers.specs.Says.{given}
 use Rattle.packet.specs.Payload.{payloadOf}
-use Rattle.gathering_rules.specs.declared.Form.{Form}
+use Rattle.memory.specs.declared.Form.{Form}
 use Rattle.gathering_rules.specs.Checks.{checked}
 use Rattle.gathering_rules.proofs.Checking.{passed}
 use Rattle.reader.specs.declared.Reader.{Reader}

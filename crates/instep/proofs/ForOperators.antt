@@ -5,8 +5,8 @@ use mathlib.Core.Bool.{true}
 use mathlib.Core.List.{List, _∷_, _++_}
 use lib.ListN.{length}
 use Rattle.packet.specs.Payload.{payloadOf}
-use Rattle.gathering_rules.specs.declared.Form.{Form}
-use Rattle.gathering_rules.specs.Memory.{noMemory}
+use Rattle.memory.specs.declared.Form.{Form}
+use Rattle.memory.specs.Memory.{noMemory}
 use Rattle.reader.specs.Pointer.{unitStart}
 use Rattle.reader.proofs.Keeping.{tail-keeps}
 use Rattle.instep.specs.Seen.{seenFromHead, tailBehind}

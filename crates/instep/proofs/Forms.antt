@@ -7,9 +7,9 @@ use mathlib.Core.List.{List, [], _∷_}
 use lib.ListN.{length, drop}
 use Rattle.fields.specs.Choice.{if_then_else_, _is_}
 use Rattle.fields.proofs.Choices.{of-both}
-use Rattle.gathering_rules.specs.declared.Form.{Form}
-use Rattle.gathering_rules.specs.declared.Memory.{Memory}
-use Rattle.gathering_rules.specs.Memory.{noMemory, soundMemory, atStart}
+use Rattle.memory.specs.declared.Form.{Form}
+use Rattle.memory.specs.declared.Memory.{Memory}
+use Rattle.memory.specs.Memory.{noMemory, soundMemory, atStart}
 use Rattle.delivered.specs.declared.Place.{Place}
 use Rattle.reader.specs.declared.Reader.{Reader}
 use Rattle.reader.specs.declared.Step.{Step}

@@ -16,9 +16,9 @@ use Rattle.packet.specs.Payload.{startingAt, payloadBehind, payloadOf}
 use Rattle.mpegts_crc.specs.Crc.{crcOf}
 use Rattle.psi.specs.Header.{wanted}
 use Rattle.psi.proofs.Sections.{wanted-by-front}
-use Rattle.gathering_rules.specs.declared.Form.{Form}
-use Rattle.gathering_rules.specs.declared.Memory.{Memory}
-use Rattle.gathering_rules.specs.Memory.{atStart}
+use Rattle.memory.specs.declared.Form.{Form}
+use Rattle.memory.specs.declared.Memory.{Memory}
+use Rattle.memory.specs.Memory.{atStart}
 use Rattle.gathering_rules.specs.Checks.{checked}
 use Rattle.gathering_rules.specs.Start.{leastHeld, startRefusal}
 use Rattle.gathering_rules.specs.Verdict.{crcVerdict, verdict}

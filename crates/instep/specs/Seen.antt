@@ -1,7 +1,7 @@
 -- What a host sees of a reader.
 use Prim.Native.Nat.{ℕ}
 use mathlib.Core.List.{List, [], _∷_}
-use Rattle.gathering_rules.specs.declared.Form.{Form}
+use Rattle.memory.specs.declared.Form.{Form}
 use Rattle.delivered.specs.Delivered.{sectionOf}
 use Rattle.reader.specs.declared.Reader.{Reader}
 use Rattle.reader.specs.declared.Step.{Step}

@@ -10,15 +10,15 @@ use Rattle.fields.specs.Choice.{if_then_else_}
 use Rattle.fields.proofs.Choices.{and-holds, of-both, of-either}
 use Rattle.fields.proofs.LaidBytes.{laid-length}
 use Rattle.psi.specs.Header.{wanted}
-use Rattle.gathering_rules.specs.declared.Form.{Form}
-use Rattle.gathering_rules.specs.declared.Memory.{Memory}
-use Rattle.gathering_rules.specs.Memory.{noMemory, soundMemory, atStart}
+use Rattle.memory.specs.declared.Form.{Form}
+use Rattle.memory.specs.declared.Memory.{Memory}
+use Rattle.memory.specs.Memory.{noMemory, soundMemory, atStart}
+use Rattle.memory.proofs.Remembering.{nothing-remembered-sound, at-start-sound, after-refusal-sound}
 use Rattle.gathering_rules.specs.Checks.{checked, NotTheHosts}
 use Rattle.gathering_rules.specs.Start.{leastHeld, startRefusal}
 use Rattle.gathering_rules.proofs.Answering.{another, verdict-answers, start-refusal-answers, checked-answers}
 use Rattle.gathering_rules.proofs.Checking.{found-place}
 use Rattle.gathering_rules.proofs.Starts.{Starts, starts}
-use Rattle.gathering_rules.proofs.Remembering.{nothing-remembered-sound, at-start-sound, after-refusal-sound}
 use Rattle.reader.specs.State.{soundCounts, sound, idle, opened, fresh}
 use Rattle.reader.specs.Outcome.{Outcome, outcome, answered}
 use Rattle.reader.specs.Checks.{fromAPlace, fromThePayload}

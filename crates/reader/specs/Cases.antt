@@ -10,8 +10,8 @@ use Rattle.fields.specs.SyntaxTable.{offset, width, valueOf}
 use Rattle.packet.specs.Header.{ofAPacket}
 use Rattle.packet.specs.Payload.{startingAt, payloadBehind}
 use Rattle.packet.specs.Cases.{packetFrom}
-use Rattle.gathering_rules.specs.declared.Form.{Form}
-use Rattle.gathering_rules.specs.Memory.{soundMemory, repeats}
+use Rattle.memory.specs.declared.Form.{Form}
+use Rattle.memory.specs.Memory.{soundMemory, repeats}
 use Rattle.gathering_rules.specs.Checks.{checked}
 use Rattle.gathering_rules.specs.Start.{startRefusal}
 use Rattle.reader.specs.State.{soundCounts, sound, fresh}

@@ -6,9 +6,9 @@ use Rattle.fields.specs.Choice.{if_then_else_, _is_, _isAtMost_}
 use Rattle.fields.specs.Laid.{laid}
 use Rattle.answers.specs.Numbers.{nothingForThisStep, bytesKept, pointerBeyondRest}
 use Rattle.psi.specs.Header.{wanted}
-use Rattle.gathering_rules.specs.declared.Form.{Form}
-use Rattle.gathering_rules.specs.declared.Memory.{Memory}
-use Rattle.gathering_rules.specs.Memory.{atStart, afterRefusal}
+use Rattle.memory.specs.declared.Form.{Form}
+use Rattle.memory.specs.declared.Memory.{Memory}
+use Rattle.memory.specs.Memory.{atStart, afterRefusal}
 use Rattle.gathering_rules.specs.Start.{startRefusal}
 use Rattle.reader.specs.declared.Reader.{Reader}
 use Rattle.reader.specs.State.{idle, opened}

@@ -1,7 +1,7 @@
 -- What a step leaves: its answer, with the state after it and the place of a delivered section, and the bytes of the lent buffer.
 use Prim.Native.Nat.{ℕ}
 use mathlib.Core.List.{List}
-use Rattle.gathering_rules.specs.Memory.{noMemory}
+use Rattle.memory.specs.Memory.{noMemory}
 use Rattle.delivered.specs.declared.Holder.{Holder}
 use Rattle.delivered.specs.declared.Place.{Place}
 use Rattle.reader.specs.declared.Reader.{Reader}

@@ -2,9 +2,9 @@
 use Prim.Native.Nat.{ℕ}
 use mathlib.Core.Bool.{Bool, true, false}
 use Rattle.fields.specs.Choice.{if_then_else_, _and_, _is_, _isBelow_, _isAtMost_}
-use Rattle.gathering_rules.specs.declared.Form.{Form}
-use Rattle.gathering_rules.specs.declared.Memory.{Memory}
-use Rattle.gathering_rules.specs.Memory.{noMemory, soundMemory}
+use Rattle.memory.specs.declared.Form.{Form}
+use Rattle.memory.specs.declared.Memory.{Memory}
+use Rattle.memory.specs.Memory.{noMemory, soundMemory}
 use Rattle.gathering_rules.specs.Checks.{bufferLength}
 use Rattle.gathering_rules.specs.Start.{leastHeld}
 use Rattle.reader.specs.declared.Reader.{Reader}

@@ -3,8 +3,8 @@ use Prim.Native.Nat.{ℕ}
 use mathlib.Core.List.{List}
 use Rattle.fields.specs.Choice.{if_then_else_, _is_}
 use Rattle.answers.specs.Numbers.{delivered}
-use Rattle.gathering_rules.specs.declared.Form.{Form}
-use Rattle.gathering_rules.specs.declared.Memory.{Memory}
+use Rattle.memory.specs.declared.Form.{Form}
+use Rattle.memory.specs.declared.Memory.{Memory}
 use Rattle.gathering_rules.specs.Verdict.{verdict}
 use Rattle.delivered.specs.declared.Place.{Place}
 use Rattle.reader.specs.declared.Step.{Step}

@@ -17,13 +17,13 @@ pub use delivered::Place;
 pub use delivered::section;
 use fields::word;
 use gathering_rules::Buffer;
-pub use gathering_rules::Form;
-pub use gathering_rules::Memory;
-use gathering_rules::after_refusal;
 use gathering_rules::checked;
 use gathering_rules::least_held;
 use gathering_rules::start_refusal;
 use gathering_rules::verdict;
+pub use memory::Form;
+pub use memory::Memory;
+use memory::after_refusal;
 use packet::Payload;
 use psi::Section;
 

@@ -5,8 +5,8 @@ use mathlib.Core.List.{List}
 use Rattle.fields.specs.Choice.{if_then_else_, _and_, _is_, _isAtMost_}
 use Rattle.answers.specs.Numbers.{under3Bytes}
 use Rattle.psi.specs.Header.{tableHeaderOf}
-use Rattle.gathering_rules.specs.declared.Form.{Form}
-use Rattle.gathering_rules.specs.declared.Memory.{Memory}
+use Rattle.memory.specs.declared.Form.{Form}
+use Rattle.memory.specs.declared.Memory.{Memory}
 
 -- nothing is remembered
 abbrev pub noMemory : Memory

@@ -1,9 +1,9 @@
--- `gathering_rules::after_refusal` meets its contract: 10 forgets, and no other. Assumes nothing.
+-- `memory::after_refusal` meets its contract: 10 forgets, and no other. Assumes nothing.
 use borrow.Author.Tests.{eq-eqb, ne-eqb}
 use Rattle.fields.specs.Choice.{if_then_else_}
 use borrow.Author.Needs.{needs}
-use Rattle.gathering_rules.proofs.after_refusal.Statement.{statement}
-use Rattle.gathering_rules.proofs.after_refusal.Tie as tie
+use Rattle.memory.proofs.after_refusal.Statement.{statement}
+use Rattle.memory.proofs.after_refusal.Tie as tie
 
 none-requires : tie.Need-none-requires
 none-requires c κs = search needs

@@ -12,9 +12,9 @@ use Rattle.answers.specs.Says.{Says}
 use Rattle.psi.specs.Header.{versionNumber, tableFieldsOf, tableHeaderOf}
 use Rattle.psi.specs.declared.TableSyntaxHeader.{TableSyntaxHeader}
 use Rattle.psi.proofs.Sections.{version-number-below-32}
-use Rattle.gathering_rules.specs.declared.Form.{Form}
-use Rattle.gathering_rules.specs.declared.Memory.{Memory}
-use Rattle.gathering_rules.specs.Memory.{noMemory, soundMemory, versionOf, atStart, afterRefusal}
+use Rattle.memory.specs.declared.Form.{Form}
+use Rattle.memory.specs.declared.Memory.{Memory}
+use Rattle.memory.specs.Memory.{noMemory, soundMemory, versionOf, atStart, afterRefusal}
 
 pub nothing-remembered-sound : (form : Form) → soundMemory form noMemory ≡ true
 unfolding soundMemory if_then_else_

@@ -1,9 +1,9 @@
--- `gathering_rules::Memory::is_sound` meets its contract, form by form. Assumes nothing.
+-- `memory::Memory::is_sound` meets its contract, form by form. Assumes nothing.
 use Rattle.fields.specs.Choice.{if_then_else_}
-use Rattle.gathering_rules.specs.Memory.{soundMemory}
+use Rattle.memory.specs.Memory.{soundMemory}
 use borrow.Author.Needs.{needs}
-use Rattle.gathering_rules.proofs.Memory.is_sound.Statement.{statement}
-use Rattle.gathering_rules.proofs.Memory.is_sound.Tie as tie
+use Rattle.memory.proofs.Memory.is_sound.Statement.{statement}
+use Rattle.memory.proofs.Memory.is_sound.Tie as tie
 
 enum-told : tie.Need-enum-told
 enum-told c = search needs

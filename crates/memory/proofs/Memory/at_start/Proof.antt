@@ -1,8 +1,8 @@
--- `gathering_rules::Memory::at_start` meets its contract, form by form. Assumes nothing.
-use Rattle.gathering_rules.specs.Memory.{atStart}
+-- `memory::Memory::at_start` meets its contract, form by form. Assumes nothing.
+use Rattle.memory.specs.Memory.{atStart}
 use borrow.Author.Needs.{needs}
-use Rattle.gathering_rules.proofs.Memory.at_start.Statement.{statement}
-use Rattle.gathering_rules.proofs.Memory.at_start.Tie as tie
+use Rattle.memory.proofs.Memory.at_start.Statement.{statement}
+use Rattle.memory.proofs.Memory.at_start.Tie as tie
 
 enum-told : tie.Need-enum-told
 enum-told c = search needs

@@ -1,9 +1,9 @@
--- `gathering_rules::Memory::repeats` meets its contract, form by form. Assumes nothing.
+-- `memory::Memory::repeats` meets its contract, form by form. Assumes nothing.
 use Rattle.fields.specs.Choice.{if_then_else_}
-use Rattle.gathering_rules.specs.Memory.{repeats}
+use Rattle.memory.specs.Memory.{repeats}
 use borrow.Author.Needs.{needs}
-use Rattle.gathering_rules.proofs.Memory.repeats.Statement.{statement}
-use Rattle.gathering_rules.proofs.Memory.repeats.Tie as tie
+use Rattle.memory.proofs.Memory.repeats.Statement.{statement}
+use Rattle.memory.proofs.Memory.repeats.Tie as tie
 
 enum-told : tie.Need-enum-told
 enum-told c = search needs

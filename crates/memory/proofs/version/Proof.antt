@@ -1,11 +1,11 @@
--- `gathering_rules::version` meets its contract: what the table header says. Assumes nothing.
+-- `memory::version` meets its contract: what the table header says. Assumes nothing.
 use mathlib.Core.Path.{sym, ap, _∙_}
 use Rattle.answers.specs.Says.{Says}
 use Rattle.psi.specs.Header.{tableHeaderSays}
 use Rattle.psi.specs.declared.TableSyntaxHeader.{TableSyntaxHeader}
 use borrow.Author.Needs.{needs}
-use Rattle.gathering_rules.proofs.version.Statement.{statement}
-use Rattle.gathering_rules.proofs.version.Tie as tie
+use Rattle.memory.proofs.version.Statement.{statement}
+use Rattle.memory.proofs.version.Tie as tie
 
 table-header-requires : tie.Need-table-header-requires
 table-header-requires c κs = search needs
