@@ -5,11 +5,10 @@ use Rattle.fields.specs.BitString.{lowBits, bitString, number, numberAt}
 use Rattle.fields.specs.SyntaxTable.{size, offset, width, valueOf}
 use Rattle.packet.specs.Header.{ofAPacket}
 use Rattle.adaptation.specs.AdaptationField.{flagsOf, wherePresent, ofAField, adaptationFieldOf}
-use Rattle.adaptation.specs.Parts.{part, pcrOf}
-use Rattle.adaptation.specs.Cases.{Case3Field, Case5Field, Case16}
+use Rattle.adaptation.specs.Cases.{Case3Field, Case5Field}
 
-pub hand-cases : Case3Field × Case5Field × Case16
+pub hand-cases : Case3Field × Case5Field
 unfolding
     if_then_else_ lowBits bitString number numberAt size offset width valueOf
-    ofAPacket flagsOf wherePresent ofAField adaptationFieldOf part pcrOf
-hand-cases = (refl, refl, refl)
+    ofAPacket flagsOf wherePresent ofAField adaptationFieldOf
+hand-cases = (refl, refl)

@@ -1,4 +1,3 @@
 pub mod AdaptationFields
-pub mod Parts
 pub mod Cases
 pub mod Determined

@@ -1,4 +1,3 @@
 pub mod Syntax
 pub mod AdaptationField
-pub mod Parts
 pub mod Cases

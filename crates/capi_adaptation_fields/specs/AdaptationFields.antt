@@ -2,8 +2,8 @@
 use Prim.Native.Nat.{ℕ}
 use Rattle.answers.specs.Says.{Says}
 use Rattle.adaptation.specs.declared.AdaptationField.{AdaptationField}
-use Rattle.adaptation.specs.declared.ClockRef.{ClockRef}
-use Rattle.adaptation.specs.declared.PrivateData.{PrivateData}
+use Rattle.adaptation_parts.specs.declared.ClockRef.{ClockRef}
+use Rattle.adaptation_parts.specs.declared.PrivateData.{PrivateData}
 use Rattle.capi_numbers.specs.Numbers.{flag, answerOf}
 use Rattle.capi_adaptation_fields.specs.declared.JambpepperAdaptationField.{JambpepperAdaptationField}
 use Rattle.capi_adaptation_fields.specs.declared.JambpepperClock.{JambpepperClock}

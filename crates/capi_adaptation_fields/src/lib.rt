@@ -1,13 +1,13 @@
 // The C face of adaptation fields and their parts.
 ghost use mathlib.Core.Path.{_≡_};
 ghost use Rattle.adaptation.specs.AdaptationField.{adaptationFieldOf};
-ghost use Rattle.adaptation.specs.Parts.{clockSays, pcrOf, opcrOf, spliceCountdownOf, transportPrivateDataOf};
+ghost use Rattle.adaptation_parts.specs.Parts.{clockSays, pcrOf, opcrOf, spliceCountdownOf, transportPrivateDataOf};
 ghost use Rattle.capi_adaptation_fields.specs.AdaptationFields.{adaptationFieldForC, clockForC, spliceCountdownForC, privateDataForC};
 use adaptation::AdaptationField;
 use adaptation::AdaptationFieldAnswer;
-use adaptation::ClockAnswer;
-use adaptation::SpliceCountdown;
-use adaptation::TransportPrivateData;
+use adaptation_parts::ClockAnswer;
+use adaptation_parts::SpliceCountdown;
+use adaptation_parts::TransportPrivateData;
 use capi_numbers::JambpepperPart;
 
 #[repr(C)]
@@ -91,21 +91,21 @@ fn clock_for_c(clock: ClockAnswer) -> JambpepperClock
 pub extern "C" fn jambpepper_pcr(packet: &[u8]) -> JambpepperClock
     ensures { λ r. ⌜ r ≡ clockForC (pcrOf (now (packet .entry))) ⌝ }
 {
-    clock_for_c(AdaptationField::pcr(packet))
+    clock_for_c(adaptation_parts::pcr(packet))
 }
 
 #[no_mangle]
 pub extern "C" fn jambpepper_opcr(packet: &[u8]) -> JambpepperClock
     ensures { λ r. ⌜ r ≡ clockForC (opcrOf (now (packet .entry))) ⌝ }
 {
-    clock_for_c(AdaptationField::opcr(packet))
+    clock_for_c(adaptation_parts::opcr(packet))
 }
 
 #[no_mangle]
 pub extern "C" fn jambpepper_splice_countdown(packet: &[u8]) -> JambpepperSpliceCountdown
     ensures { λ r. ⌜ r ≡ spliceCountdownForC (spliceCountdownOf (now (packet .entry))) ⌝ }
 {
-    match AdaptationField::splice_countdown(packet) {
+    match adaptation_parts::splice_countdown(packet) {
         SpliceCountdown::Is(splice_countdown) => JambpepperSpliceCountdown {
             splice_countdown,
             answer: 0,
@@ -121,7 +121,7 @@ pub extern "C" fn jambpepper_splice_countdown(packet: &[u8]) -> JambpepperSplice
 pub extern "C" fn jambpepper_transport_private_data(packet: &[u8]) -> JambpepperPart
     ensures { λ r. ⌜ r ≡ privateDataForC (transportPrivateDataOf (now (packet .entry))) ⌝ }
 {
-    match AdaptationField::transport_private_data(packet) {
+    match adaptation_parts::transport_private_data(packet) {
         TransportPrivateData::At(place) => JambpepperPart {
             start: place.start,
             length: place.length,

@@ -6,7 +6,7 @@ use mathlib.Core.Bool.{Bool, true, false}
 use mathlib.Core.List.{List}
 use Rattle.fields.specs.Choice.{if_then_else_, _is_, _isAtMost_}
 use Rattle.fields.proofs.Choices.{test-holds, both-hold}
-use Rattle.gathering_rules.specs.declared.Form.{Form}
+use Rattle.memory.specs.declared.Form.{Form}
 use Rattle.reader.specs.declared.Reader.{Reader}
 use Rattle.reader.specs.State.{fresh}
 use Rattle.reader.specs.Outcome.{Outcome}

@@ -4,8 +4,8 @@ use mathlib.Core.Bool.{Bool, false}
 use mathlib.Core.List.{List}
 use lib.ListN.{length, take, drop}
 use Rattle.fields.specs.Choice.{if_then_else_, _and_, _is_, _isAtMost_}
-use Rattle.gathering_rules.specs.declared.Form.{Form}
-use Rattle.gathering_rules.specs.Memory.{noMemory}
+use Rattle.memory.specs.declared.Form.{Form}
+use Rattle.memory.specs.Memory.{noMemory}
 use Rattle.gathering_rules.specs.Checks.{checked}
 use Rattle.delivered.specs.declared.Holder.{Holder}
 use Rattle.delivered.specs.declared.Place.{Place}

@@ -14,7 +14,7 @@ use Rattle.packet.specs.Header as packet-header
 use Rattle.packet.specs.Payload.{startingAt, payloadBehind, payloadOf}
 use Rattle.packet.specs.Cases.{packetFrom, withLength}
 use Rattle.adaptation.specs.AdaptationField.{flagsOf, wherePresent, ofAField, adaptationFieldOf}
-use Rattle.adaptation.specs.Parts.{part, pcrOf}
+use Rattle.adaptation_parts.specs.Parts.{part, pcrOf}
 use Rattle.psi.specs.Header as section-header
 use Rattle.psi.specs.Walk.{foundAt}
 use Rattle.pat.specs.declared.ProgramDescriptor.{ProgramDescriptor}

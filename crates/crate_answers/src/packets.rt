@@ -2,9 +2,9 @@
 use crate::line;
 use adaptation::AdaptationField;
 use adaptation::AdaptationFieldAnswer;
-use adaptation::ClockAnswer;
-use adaptation::SpliceCountdown;
-use adaptation::TransportPrivateData;
+use adaptation_parts::ClockAnswer;
+use adaptation_parts::SpliceCountdown;
+use adaptation_parts::TransportPrivateData;
 use packet::Header;
 use packet::HeaderAnswer;
 use packet::Packet;
@@ -40,13 +40,13 @@ fn say_parts(packet: &[u8]) {
     line::text(b" adaptation");
     say_adaptation_field(AdaptationField::of(packet));
     line::text(b" pcr");
-    say_clock(AdaptationField::pcr(packet));
+    say_clock(adaptation_parts::pcr(packet));
     line::text(b" opcr");
-    say_clock(AdaptationField::opcr(packet));
+    say_clock(adaptation_parts::opcr(packet));
     line::text(b" splice");
-    say_splice_countdown(AdaptationField::splice_countdown(packet));
+    say_splice_countdown(adaptation_parts::splice_countdown(packet));
     line::text(b" private");
-    say_private_data(AdaptationField::transport_private_data(packet));
+    say_private_data(adaptation_parts::transport_private_data(packet));
 }
 
 fn say_payload(answer: Payload) {

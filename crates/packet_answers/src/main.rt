@@ -7,9 +7,9 @@
 // transport_private_data. For counters it has one number: whether the first follows the other.
 use adaptation::AdaptationField;
 use adaptation::AdaptationFieldAnswer;
-use adaptation::ClockAnswer;
-use adaptation::SpliceCountdown;
-use adaptation::TransportPrivateData;
+use adaptation_parts::ClockAnswer;
+use adaptation_parts::SpliceCountdown;
+use adaptation_parts::TransportPrivateData;
 use answers::Refusal;
 use fields::word;
 use libc::STDIN_FILENO;
@@ -103,8 +103,8 @@ fn put_parts(line: &mut [u8], start: usize, packet: &[u8]) -> usize
     requires { ⌜ start + 231 < length (now line) ⌝ }
     ensures { λ r. ⌜ r ≤ start + 231 ⌝ }
 {
-    let mut end = put(line, start, &clock(AdaptationField::pcr(packet)));
-    end = put(line, end, &clock(AdaptationField::opcr(packet)));
+    let mut end = put(line, start, &clock(adaptation_parts::pcr(packet)));
+    end = put(line, end, &clock(adaptation_parts::opcr(packet)));
     end = put(line, end, &splice_countdown(packet));
     put(line, end, &transport_private_data(packet))
 }
@@ -163,7 +163,7 @@ fn clock(answer: ClockAnswer) -> [u64; 3] {
 }
 
 fn splice_countdown(packet: &[u8]) -> [u64; 2] {
-    let answer = AdaptationField::splice_countdown(packet);
+    let answer = adaptation_parts::splice_countdown(packet);
     match answer {
         SpliceCountdown::Is(countdown) => [0, countdown as u64],
         SpliceCountdown::Refused(refusal) => [number_of(refusal), 0],
@@ -171,7 +171,7 @@ fn splice_countdown(packet: &[u8]) -> [u64; 2] {
 }
 
 fn transport_private_data(packet: &[u8]) -> [u64; 3] {
-    let answer = AdaptationField::transport_private_data(packet);
+    let answer = adaptation_parts::transport_private_data(packet);
     match answer {
         TransportPrivateData::At(place) => [0, place.start as u64, place.length as u64],
         TransportPrivateData::Refused(refusal) => [number_of(refusal), 0, 0],

@@ -1,6 +1,6 @@
 -- `capi_adaptation_fields::jambpepper_splice_countdown` meets its contract: each case of the answer is what is said of it. Assumes nothing.
 use mathlib.Core.Path.{sym, ap, _∙_}
-use Rattle.adaptation.specs.Parts.{spliceCountdownSays}
+use Rattle.adaptation_parts.specs.Parts.{spliceCountdownSays}
 use borrow.Author.Needs.{needs}
 use Rattle.capi_adaptation_fields.proofs.jambpepper_splice_countdown.Statement.{statement}
 use Rattle.capi_adaptation_fields.proofs.jambpepper_splice_countdown.Tie as tie

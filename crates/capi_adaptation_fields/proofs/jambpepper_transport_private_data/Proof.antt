@@ -1,6 +1,6 @@
 -- `capi_adaptation_fields::jambpepper_transport_private_data` meets its contract: each case of the answer is what is said of it. Assumes nothing.
 use mathlib.Core.Path.{sym, ap, _∙_}
-use Rattle.adaptation.specs.Parts.{transportPrivateDataSays}
+use Rattle.adaptation_parts.specs.Parts.{transportPrivateDataSays}
 use borrow.Author.Needs.{needs}
 use Rattle.capi_adaptation_fields.proofs.jambpepper_transport_private_data.Statement.{
   statement,
