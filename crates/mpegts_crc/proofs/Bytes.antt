@@ -4,12 +4,13 @@ use mathlib.Core.Path.{_≡_, refl, sym, ap, ap₂, _∙_, subst}
 use mathlib.Core.List.{List, [], _∷_, _++_}
 use Prim.Native.Nat.{ℕ, zero, suc, _+_, _-_, _*_, _/_, _%_, _^_, _<_, _≤_}
 use native.Mathlib.Nat.{zero-add, zero-mul, suc-mul, div-eq-of-lt, mod-eq-of-lt}
+use native.Mathlib.Numerals.{add-one}
 use native.Mathlib.Omega.{arith}
 use lib.Arith.{digits-div, digits-mod}
 use lib.Dec.{lit<}
 use lib.Pow.{shr-lt}
 use lib.ListN.{length, getD, take, drop, length-drop, take-append-drop, drop-of-length-le}
-use lib.Seq.{take-suc, drop-drop, getD-drop}
+use lib.Seq.{take-suc, drop-cons, drop-drop, getD-drop}
 use Rattle.fields.specs.BitString.{numberAt}
 use Rattle.fields.specs.Word.{wordOf}
 use Rattle.fields.proofs.BitStrings.{byte-more, cut, number-at-lt}
@@ -93,6 +94,12 @@ eight-turn {first} {second} register bytes at l h read read′ p =
     let next : ℕ = bitsEnter 32 register first in
     ap (λ n. crcFrom (bitsEnter 32 next second) (drop n bytes)) q
     ∙ word-turn next bytes (at + 4) (omega arith) h read′ (word-turn register bytes at (omega arith) h read p)
+
+-- a turn over one byte: the byte at i takes the register to next, and whole is what is to come out
+pub byte-turn : {next whole : ℕ} (register : ℕ) (bytes : List ℕ) (i : ℕ) → i < length bytes
+    → next ≡ bitsEnter 8 register (getD bytes i 0) → crcFrom register (drop i bytes) ≡ whole → crcFrom next (drop (i + 1) bytes) ≡ whole
+unfolding crcFrom
+byte-turn register bytes i h step p = rw (step, add-one) (sym (ap (crcFrom register) (drop-cons bytes i 0 h)) ∙ p)
 
 -- nothing is left to enter
 pub done : {register whole : ℕ} (bytes : List ℕ) (at : ℕ) → length bytes ≤ at → crcFrom register (drop at bytes) ≡ whole → register ≡ whole

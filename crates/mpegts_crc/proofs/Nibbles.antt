@@ -6,7 +6,7 @@ use native.Mathlib.Nat.{zero-add, suc-add, mul-one, zero-div, div-one, mod-eq-of
 use native.Mathlib.Omega.{arith}
 use lib.Bits.{bitXor, xor-shr, xor-mod, xor-comm, xor-zero-l, xor-zero-r}
 use Rattle.mpegts_crc.specs.Crc.{_plusPolynomialIf_, bitStep, bitSteps, bitEnters, bitsEnter}
-use Rattle.mpegts_crc.specs.NibbleTables.{nibbleEntry}
+use Rattle.mpegts_crc.specs.StepTable.{nibbleEntry}
 use Rattle.mpegts_crc.proofs.Xor.{xor-swap, xor-shl}
 use Rattle.mpegts_crc.proofs.Steps.{step-xor, steps-xor, enter-top, enter-join}
 

@@ -1,13 +1,14 @@
--- Bit steps are linear. So k bits that enter the register at once are added to its top k bits, and k bit steps are made. One law over k,
--- `enter-top`. Assumes nothing.
+-- Bit steps are linear. So k bits that enter the register are one step by a table: the register gone up k bits, plus the k bit steps
+-- of what stood in its top k bits with those that enter added. One law over k, `table-step`.
+-- Assumes nothing.
 use mathlib.Core.Path.{_≡_, refl, sym, ap, ap₂, _∙_, subst}
 use Prim.Native.Nat.{ℕ, zero, suc, _+_, _*_, _/_, _%_, _^_, _<_, _≤_}
-use native.Mathlib.Nat.{zero-add, suc-add, add-comm, mul-one, zero-mul, mul-assoc, mul-comm, mul-le-mul-left, pow-suc}
-use native.Mathlib.Nat.{mod-lt, mod-one, mod-eq-of-lt}
+use native.Mathlib.Nat.{add-zero, zero-add, suc-add, add-comm, mul-one, zero-mul, mul-assoc, mul-comm, mul-le-mul-left, pow-suc}
+use native.Mathlib.Nat.{mod-lt, mod-one, mod-eq-of-lt, mul-mod-left}
 use native.Mathlib.Omega.{arith}
 use lib.Dec.{lit<}
-use lib.Pow.{pow-pos, pow-add, shl-lt, shr-shr, mod-pow-add}
-use lib.Bits.{bitXor, xor-lt, xor-shr, xor-mod, xor-shifted, xor-zero-r}
+use lib.Pow.{pow-pos, pow-add, split, shl-lt, shr-lt, shl-shr, shr-shr, mod-pow-add}
+use lib.Bits.{bitXor, xor-lt, xor-shr, xor-mod, xor-block, xor-shifted, xor-comm, xor-zero-r}
 use Rattle.mpegts_crc.specs.Crc.{polynomial, upOneBit, leavingBit, _plusPolynomialIf_}
 use Rattle.mpegts_crc.specs.Crc.{bitStep, bitSteps, bitEnters, bitsEnter}
 use Rattle.mpegts_crc.proofs.Xor.{at-bits, xor-assoc, xor-swap, xor-shl}
@@ -110,12 +111,43 @@ enter-top (suc k) m e register n =
     ∙ ap (bitXor (bitStep (bitXor register bit)))
     (step-shift rest (omega arith) ∙ mul-assoc (n % 2 ^ k) (2 ^ m) 2 ∙ ap (λ p. n % 2 ^ k * p) (sym (pow-suc 2 m)))))
 
--- no other bit of n enters
-pub enter-mod : (k m : ℕ) → m + k ≡ 32 → (register n : ℕ) → bitsEnter k register (n % 2 ^ k) ≡ bitsEnter k register n
-enter-mod k m e register n =
-    enter-top k m e register (n % 2 ^ k)
-    ∙ ap (λ b. bitSteps k (bitXor register (b * 2 ^ m))) (mod-eq-of-lt (mod-lt n (pow-pos k)))
-    ∙ sym (enter-top k m e register n)
+module _ (k m : ℕ) (e : m + k ≡ 32) where
+  -- no other bit of n enters
+  pub enter-mod : (register n : ℕ) → bitsEnter k register (n % 2 ^ k) ≡ bitsEnter k register n
+  enter-mod register n =
+      enter-top k m e register (n % 2 ^ k)
+      ∙ ap (λ b. bitSteps k (bitXor register (b * 2 ^ m))) (mod-eq-of-lt (mod-lt n (pow-pos k)))
+      ∙ sym (enter-top k m e register n)
+
+  -- the place in the table
+  pub index-lt : {register n : ℕ} → register < 2 ^ 32 → n < 2 ^ k → bitXor (register / 2 ^ m) n < 2 ^ k
+  index-lt {register} {n} hr hn =
+      xor-lt k (register / 2 ^ m) n (shr-lt k m (subst (λ w. register < 2 ^ w) (let q : 32 ≡ k + m = omega arith in q) hr)) hn
+
+  -- the bits that stay go up
+  low-up : (register : ℕ) → register % 2 ^ m * 2 ^ k ≡ register * 2 ^ k % 2 ^ 32
+  low-up register =
+      sym (ap₂ (λ x y. x % 2 ^ m * 2 ^ k + y) (shl-shr register k) (mul-mod-left register (2 ^ k))
+      ∙ add-zero (register % 2 ^ m * 2 ^ k))
+      ∙ sym (mod-pow-add (register * 2 ^ k) m k) ∙ ap (λ w. register * 2 ^ k % 2 ^ w) e
+
+  pub table-step : (register n : ℕ) → n < 2 ^ k
+      → bitsEnter k register n ≡ bitXor (register * 2 ^ k % 2 ^ 32) (bitSteps k (bitXor (register / 2 ^ m) n * 2 ^ m))
+  table-step register n hn =
+      let i : ℕ = bitXor (register / 2 ^ m) n in
+      let low : ℕ = register % 2 ^ m in
+      let low< : low < 2 ^ m = mod-lt register (pow-pos m) in
+      let parts : bitXor register (n * 2 ^ m) ≡ bitXor (i * 2 ^ m) low =
+      ap₂ bitXor (sym (split register m)) (sym (add-zero (n * 2 ^ m)))
+      ∙ xor-block m (register / 2 ^ m) n low 0 low< (pow-pos m)
+      ∙ ap (λ l. i * 2 ^ m + l) (xor-zero-r low)
+      ∙ sym (xor-shifted i m low low<) in
+      enter-top k m e register n
+      ∙ ap (bitSteps k) (ap (λ b. bitXor register (b * 2 ^ m)) (mod-eq-of-lt hn) ∙ parts)
+      ∙ steps-xor k (i * 2 ^ m) low
+      ∙ ap (bitXor (bitSteps k (i * 2 ^ m)))
+      (steps-shift k low (subst (λ w. low * 2 ^ k < 2 ^ w) e (shl-lt m k low<)) ∙ low-up register)
+      ∙ xor-comm (bitSteps k (i * 2 ^ m)) (register * 2 ^ k % 2 ^ 32)
 
 -- ---- j bits of n enter, and then the k below them
 

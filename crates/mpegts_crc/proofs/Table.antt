@@ -1,11 +1,11 @@
--- The tables' rule at each of their entries, from one test of the whole that antt computes: they are the tables that the rule makes.
+-- A table's rule at each of its entries, from one test of the whole that antt computes: it is the table that the rule makes.
 -- Assumes nothing.
 use mathlib.Core.Path.{_≡_, sym, ap, _∙_}
 use mathlib.Core.List.{List, [], _∷_}
-use Prim.Native.Nat.{ℕ, zero, suc, _+_, _<_}
+use Prim.Native.Nat.{ℕ, zero, suc, _+_, _^_, _<_}
 use native.Mathlib.Nat.{add-zero, zero-add, add-suc, suc-add, le-of-suc-le-suc, not-suc-le-zero}
 use lib.ListN.{getD}
-use Rattle.mpegts_crc.specs.NibbleTables.{nibbleEntry, NibbleTables}
+use Rattle.mpegts_crc.specs.StepTable.{entryOf, StepTable, nibbleEntry, NibbleTables}
 
 -- n entries by a rule, the first for the place i
 abbrev pub listed : {A : Type 0} → (ℕ → A) → ℕ → ℕ → List A
@@ -22,6 +22,9 @@ pub listed-at : {A : Type 0} (rule : ℕ → A) (other : A) (n i : ℕ) → i < 
 listed-at rule other n i h = listed-from rule other 0 n i h ∙ ap rule (zero-add i)
 
 -- the test, and the rule that it gives
+pub step-table : (k : ℕ) {table : List ℕ} → table ≡ listed (entryOf k) 0 (2 ^ k) → StepTable k table
+step-table k test = record { entry = λ i h. ap (λ t. getD t i 0) test ∙ listed-at (entryOf k) 0 (2 ^ k) i h }
+
 pub nibble-tables : {tables : List (List ℕ)} → tables ≡ listed (λ j. listed (nibbleEntry j) 0 16) 0 16 → NibbleTables tables
 nibble-tables test =
     record {

@@ -1,3 +1,3 @@
 pub mod Crc
-pub mod NibbleTables
+pub mod StepTable
 pub mod Cases

@@ -1,10 +1,18 @@
--- The rule of the tables that stand for many bit steps at once, `NIBBLE_TABLES`.
+-- The rules of the tables that stand for many bit steps at once. `CRC_TABLE` has the first at eight, `NIBBLE_TABLES` the second.
 -- Assumes nothing.
 use mathlib.Core.Path.{_≡_}
 use mathlib.Core.List.{List, []}
-use Prim.Native.Nat.{ℕ, _+_, _*_, _^_, _<_}
+use Prim.Native.Nat.{ℕ, _+_, _-_, _*_, _^_, _<_}
 use lib.ListN.{getD}
 use Rattle.mpegts_crc.specs.Crc.{bitSteps}
+
+-- "eight bit steps on i placed in the top byte", for k bits
+abbrev pub entryOf : ℕ → ℕ → ℕ
+entryOf k i = bitSteps k (i * 2 ^ (32 - k))
+
+-- "entry i is eight bit steps on i placed in the top byte", for k bits
+pub record StepTable (k : ℕ) (table : List ℕ) : Type 0 where
+  pub entry : (i : ℕ) → i < 2 ^ k → getD table i 0 ≡ entryOf k i
 
 -- what four bits i bring with j times four bits behind them: the bit steps of all these on i placed in the top four bits
 abbrev pub nibbleEntry : ℕ → ℕ → ℕ
