@@ -8,6 +8,7 @@ use Rattle.capi_gathering.proofs.jambpepper_is_sound.Reads as is-sound
 use Rattle.capi_gathering.proofs.jambpepper_tail.Reads as tail
 use Rattle.capi_gathering.proofs.jambpepper_head.Reads as head
 use Rattle.capi_gathering.proofs.jambpepper_section.Reads as section
+use Rattle.capi_gathering.proofs.jambpepper_sum32.Reads as sum32
 
 pub jambpepper-fresh-determined : Determines fresh.Post
 jambpepper-fresh-determined κs arguments x y x-exit y-exit p q = p ∙ sym q
@@ -25,3 +26,6 @@ jambpepper-head-determined κs arguments x y x-exit y-exit p q =
 
 pub jambpepper-section-determined : Determines section.Post
 jambpepper-section-determined κs arguments x y x-exit y-exit p q = p ∙ sym q
+
+pub jambpepper-sum32-determined : Determines sum32.Post
+jambpepper-sum32-determined κs arguments x y x-exit y-exit p q = p ∙ sym q

@@ -1,7 +1,8 @@
-// The C face of gathering: the state, both steps, the reading of a delivered section.
+// The C face of gathering: the state, both steps, the reading of a delivered section; and of the CRC, so that the steps and C call one copy of it.
 ghost use Prim.Native.Nat.{_≤_};
 ghost use mathlib.Core.Path.{_≡_};
 ghost use mathlib.Core.Bool.{true};
+ghost use Rattle.mpegts_crc.specs.Crc.{crcOf};
 ghost use Rattle.reader.specs.Tail.{tailOf};
 ghost use Rattle.reader.specs.Head.{headOf};
 ghost use Rattle.capi_numbers.specs.Numbers.{flag};
@@ -9,6 +10,7 @@ ghost use Rattle.capi_gathering.specs.Gathering.{formNumber, formOf, hol
 ghost use Rattle.capi_gathering.specs.Gathering.{readerForC, readerFromC, placeForC, placeFromC, stepForC, refusedForC, freshForC, soundForC};
 ghost use Rattle.capi_gathering.specs.Gathering.{outcomeForC, workedForC, sectionForC};
 use gathering_rules::checked;
+use mpegts_crc::sum32;
 use reader::Form;
 use reader::Holder;
 use reader::Memory;
@@ -256,4 +258,11 @@ pub extern "C" fn jambpepper_section<'a>(
         };
     }
     place
+}
+
+#[no_mangle]
+pub extern "C" fn jambpepper_sum32(data: &[u8]) -> u32
+    ensures { λ r. ⌜ r ≡ crcOf (now («data» .entry)) ⌝ }
+{
+    sum32(data)
 }

@@ -4,7 +4,6 @@ use Rattle.fields.specs.Determines.{Determines}
 use Rattle.capi_sections.proofs.jambpepper_section_header.Reads as section-header
 use Rattle.capi_sections.proofs.jambpepper_table_header.Reads as table-header
 use Rattle.capi_sections.proofs.jambpepper_body.Reads as body
-use Rattle.capi_sections.proofs.jambpepper_sum32.Reads as sum32
 
 pub jambpepper-section-header-determined : Determines section-header.Post
 jambpepper-section-header-determined κs arguments x y x-exit y-exit p q = p ∙ sym q
@@ -14,6 +13,3 @@ jambpepper-table-header-determined κs arguments x y x-exit y-exit p q = p ∙ s
 
 pub jambpepper-body-determined : Determines body.Post
 jambpepper-body-determined κs arguments x y x-exit y-exit p q = p ∙ sym q
-
-pub jambpepper-sum32-determined : Determines sum32.Post
-jambpepper-sum32-determined κs arguments x y x-exit y-exit p q = p ∙ sym q

@@ -1,11 +1,9 @@
-// The C face of sections: headers, body, CRC.
+// The C face of sections: headers and body.
 ghost use mathlib.Core.Path.{_≡_};
 ghost use Rattle.psi.specs.Header.{headerOf, tableHeaderOf};
 ghost use Rattle.psi.specs.Body.{bodyOf};
-ghost use Rattle.mpegts_crc.specs.Crc.{crcOf};
 ghost use Rattle.capi_sections.specs.Sections.{sectionHeaderForC, tableHeaderForC, partForC};
 use capi_numbers::JambpepperPart;
-use mpegts_crc::sum32;
 use psi::Body;
 use psi::HeaderAnswer;
 use psi::Section;
@@ -92,11 +90,4 @@ pub extern "C" fn jambpepper_body(section: &[u8]) -> JambpepperPart
             answer: refusal.number(),
         },
     }
-}
-
-#[no_mangle]
-pub extern "C" fn jambpepper_sum32(data: &[u8]) -> u32
-    ensures { λ r. ⌜ r ≡ crcOf (now («data» .entry)) ⌝ }
-{
-    sum32(data)
 }
