@@ -1,9 +1,14 @@
 // The lines of the report. The first word of a line says what it is; the number behind `section`, `refused` and `skipped` is the
-// packet's, counted from 0. What answers whether it was written answers it for its first line: an output that fails goes on failing.
+// packet's, counted from 0. What answers how many writes failed answers it for its first line: an output that fails goes on failing.
 use crate::names::put_with_meaning;
 use crate::names::put_with_stream_type;
 use crate::names::put_with_table;
+use crate::names::table_line;
+use crate::names::type_line;
+use crate::names::when_line;
 use crate::text::put;
+use crate::text::put_named;
+use crate::words::FormLine;
 use answers::Answer;
 use answers::Refusal;
 use pat::PatSection;
@@ -18,43 +23,29 @@ use psi::HeaderAnswer;
 use psi::Section;
 use psi::TableHeaderAnswer;
 use psi::TableSyntaxHeader;
-use reader::Form;
 
 const PAT: u8 = 0x00;
 
 const PMT: u8 = 0x02;
 
-enum Walk {
-    Programs,
-    Streams,
-}
+// The position at which a walk is over.
+const NOWHERE: usize = usize::MAX;
 
-// Where a walk goes on, if it does.
-struct Turn {
-    position: usize,
-    goes_on: bool,
-}
-
-pub fn put_heading(pid: u16, form: Form) -> bool {
-    let pids = [pid as u64, pid as u64];
-    match form {
-        Form::Compact => put(b"sections of PID # (0x$$$$), form COMPACT\n", &pids),
-        Form::Full => put(b"sections of PID # (0x$$$$), form FULL\n", &pids),
-        Form::Once => put(b"sections of PID # (0x$$$$), form ONCE\n", &pids),
-    }
-    ;
-    put(
-        b"\n            packet  table         id  version  when     section     bytes\n",
-        &[],
+// The form by the line of its name.
+pub fn put_heading(pid: u16, form: u64) -> u64 {
+    put_named(
+        b"sections of PID # (0x$$$$), form @\n\n            packet  table         id  version  when     section     bytes\n",
+        &[pid as u64, pid as u64, form],
+        b"COMPACT\nFULL\nONCE\n",
     )
 }
 
-pub fn put_refused(packet: u64, answer: u8) -> bool {
-    let numbers = [packet, answer as u64];
-    put_with_meaning(b"refused ##########  #: @\n", &numbers, answer)
+pub fn put_refused(packet: u64, answer: u8) -> u64 {
+    let numbers = [packet, answer as u64, answer as u64];
+    put_with_meaning(b"refused ##########  #: @\n", &numbers)
 }
 
-pub fn put_skipped(packet: u64, bytes: u64) -> bool {
+pub fn put_skipped(packet: u64, bytes: u64) -> u64 {
     put(
         b"skipped ##########  # bytes that are no packet\n",
         &[packet, bytes],
@@ -62,90 +53,78 @@ pub fn put_skipped(packet: u64, bytes: u64) -> bool {
 }
 
 // A delivered section: its line, and the entries of a PAT or PMT below it.
-pub fn put_section(packet: u64, form: Form, section: &[u8]) -> bool {
+pub fn put_section(packet: u64, form: u64, section: &[u8]) -> u64 {
     match Section::header(section) {
         HeaderAnswer::Refused(refusal) => put_refused(packet, refusal.number()),
-        HeaderAnswer::Is(header) => match form {
-            Form::Compact => put_compact(packet, header.table_id, section.len() as u64),
-            Form::Full => put_full(packet, header.table_id, section),
-            Form::Once => put_full(packet, header.table_id, section),
-        },
+        HeaderAnswer::Is(header) => {
+            if form == FormLine::COMPACT {
+                put_compact(packet, header.table_id, section.len() as u64)
+            } else {
+                put_full(packet, header.table_id, section)
+            }
+        }
     }
 }
 
 // A COMPACT section has no table header.
-fn put_compact(packet: u64, table_id: u8, size: u64) -> bool {
+fn put_compact(packet: u64, table_id: u8, size: u64) -> u64 {
     put_with_table(
         b"section ##########  0x$$ @      -        -  -          -          #####\n",
-        &[packet, table_id as u64, size],
-        table_id,
+        &[packet, table_id as u64, table_line(table_id), size],
     )
 }
 
-fn put_full(packet: u64, table_id: u8, section: &[u8]) -> bool {
-    let is_written = put_headers(packet, table_id, section);
-    match table_id {
-        PAT => put_body(Walk::Programs, section),
-        PMT => put_body(Walk::Streams, section),
-        _ => {}
-    }
-    is_written
-}
-
-fn put_headers(packet: u64, table_id: u8, section: &[u8]) -> bool {
+fn put_full(packet: u64, table_id: u8, section: &[u8]) -> u64 {
     match Section::table_header(section) {
         TableHeaderAnswer::Refused(refusal) => put_refused(packet, refusal.number()),
         TableHeaderAnswer::Is(header) => {
-            put_table_header(packet, table_id, header, section.len() as u64)
+            let failed = put_table_header(packet, table_id, header, section.len() as u64);
+            put_entries(table_id, section);
+            failed
         }
     }
 }
 
-fn put_table_header(packet: u64, table_id: u8, header: TableSyntaxHeader, size: u64) -> bool {
+fn put_table_header(packet: u64, table_id: u8, header: TableSyntaxHeader, size: u64) -> u64 {
     let numbers = [
         packet,
         table_id as u64,
+        table_line(table_id),
         header.id as u64,
         header.version as u64,
+        when_line(header.current_next_indicator),
         header.section_number as u64,
         header.last_section_number as u64,
         size,
     ];
-    if header.current_next_indicator {
-        return put_with_table(
-            b"section ##########  0x$$ @  #####  #######  current  ### of <<<  #####\n",
-            &numbers,
-            table_id,
-        );
-    }
     put_with_table(
-        b"section ##########  0x$$ @  #####  #######  next     ### of <<<  #####\n",
+        b"section ##########  0x$$ @  #####  #######  @  ### of <<<  #####\n",
         &numbers,
-        table_id,
     )
 }
 
-fn put_body(walk: Walk, section: &[u8]) {
+fn put_entries(table_id: u8, section: &[u8]) {
     match Section::body(section) {
         Body::Refused(_) => {}
-        Body::At(place) => put_part(walk, section, place.start, place.len),
+        Body::At(place) => put_part(table_id, section, place.start, place.len),
     }
 }
 
 // A body lies within its section, so both tests hold.
-fn put_part(walk: Walk, section: &[u8], start: usize, len: usize) {
+fn put_part(table_id: u8, section: &[u8], start: usize, len: usize) {
     if start <= section.len() {
         if len <= section.len() - start {
             let end = start + len;
-            put_entries(walk, &section[start..end]);
+            put_body(table_id, &section[start..end]);
         }
     }
 }
 
-fn put_entries(walk: Walk, body: &[u8]) {
-    match walk {
-        Walk::Programs => put_walk(walk, body, 0),
-        Walk::Streams => put_map(body),
+fn put_body(table_id: u8, body: &[u8]) {
+    match table_id {
+        PAT => put_walk(table_id, body, 0),
+        PMT => put_map(body),
+        _ => {}
     }
 }
 
@@ -159,12 +138,12 @@ fn put_map(body: &[u8]) {
         }
         PmtAnswer::Is(map) => {
             put_clock(map);
-            put_walk(Walk::Streams, body, map.streams);
+            put_walk(PMT, body, map.streams);
         }
     }
 }
 
-fn put_clock(map: PmtSection) -> bool {
+fn put_clock(map: PmtSection) -> u64 {
     let descriptors = map.descriptors;
     let numbers = [
         map.pcr_pid as u64,
@@ -176,92 +155,83 @@ fn put_clock(map: PmtSection) -> bool {
 
 // The walk of a host: from the position on, each next position handed back, until a refusal. One call more than the body has
 // bytes is enough.
-fn put_walk(walk: Walk, body: &[u8], position: usize) {
-    let mut turn = goes_on(position);
+fn put_walk(table_id: u8, body: &[u8], start: usize) {
+    let mut position = start;
     let mut calls = 0;
-    while calls <= body.len() && turn.goes_on {
-        turn = put_entry(walk, body, turn.position);
+    while calls <= body.len() && position != NOWHERE {
+        position = put_entry(table_id, body, position);
         calls += 1;
     }
 }
 
-fn put_entry(walk: Walk, body: &[u8], position: usize) -> Turn {
-    match walk {
-        Walk::Programs => put_program_at(body, position),
-        Walk::Streams => put_stream_at(body, position),
+fn put_entry(table_id: u8, body: &[u8], position: usize) -> usize {
+    if table_id == PAT {
+        return put_program_at(body, position);
     }
+    put_stream_at(body, position)
 }
 
-fn put_program_at(body: &[u8], position: usize) -> Turn {
+fn put_program_at(body: &[u8], position: usize) -> usize {
     match PatSection::program_at(body, position) {
-        ProgramAnswer::Refused(refusal) => ends(position, refusal),
+        ProgramAnswer::Refused(refusal) => end(position, refusal),
         ProgramAnswer::Is { program, next } => {
             put_program(program);
-            goes_on(next)
+            next
         }
     }
 }
 
-fn put_stream_at(body: &[u8], position: usize) -> Turn {
+fn put_stream_at(body: &[u8], position: usize) -> usize {
     match PmtSection::stream_at(body, position) {
-        StreamAnswer::Refused(refusal) => ends(position, refusal),
+        StreamAnswer::Refused(refusal) => end(position, refusal),
         StreamAnswer::Is { stream, next } => {
             put_stream(stream);
-            goes_on(next)
+            next
         }
-    }
-}
-
-fn goes_on(position: usize) -> Turn {
-    Turn {
-        position,
-        goes_on: true,
     }
 }
 
 // A walk that stops before the body's end says where and why.
-fn ends(position: usize, refusal: Refusal) -> Turn {
+fn end(position: usize, refusal: Refusal) -> usize {
     let answer = refusal.number();
     if answer != Answer::WALK_AT_END {
         put_with_meaning(
             b"  stopped at byte # of the body, #: @\n",
-            &[position as u64, answer as u64],
-            answer,
+            &[position as u64, answer as u64, answer as u64],
         );
     }
-    Turn {
-        position,
-        goes_on: false,
-    }
+    NOWHERE
 }
 
-fn put_program(program: ProgramDescriptor) -> bool {
+fn put_program(program: ProgramDescriptor) -> u64 {
     match program {
-        ProgramDescriptor::Network { pid } => put(
-            b"  network     0  PID #### (0x$$$$)\n",
-            &[pid as u64, pid as u64],
-        ),
+        ProgramDescriptor::Network { pid } => put_pid(0, 0, pid),
         ProgramDescriptor::Program {
             program_number,
             pid,
-        } => put(
-            b"  program #####  PID #### (0x$$$$)\n",
-            &[program_number as u64, pid as u64, pid as u64],
-        ),
+        } => put_pid(1, program_number, pid),
     }
 }
 
-fn put_stream(stream: StreamInfo) -> bool {
+fn put_pid(line: u64, number: u16, pid: u16) -> u64 {
+    put_named(
+        b"  @ #####  PID #### (0x$$$$)\n",
+        &[line, number as u64, pid as u64, pid as u64],
+        b"network\nprogram\n",
+    )
+}
+
+fn put_stream(stream: StreamInfo) -> u64 {
     let info = stream.info;
     let numbers = [
         stream.elementary_pid as u64,
         stream.elementary_pid as u64,
         info.len as u64,
         stream.stream_type as u64,
+        type_line(stream.stream_type),
     ];
     put_with_stream_type(
         b"  stream  PID #### (0x$$$$)  info #### bytes  type 0x$$  @\n",
         &numbers,
-        stream.stream_type,
     )
 }

@@ -19,6 +19,7 @@ use reader::Form;
 use reader::Reader;
 use reader::Step;
 use words::Fault;
+use words::FormLine;
 use words::Words;
 ghost use mathlib.Core.Path.{_≡_};
 ghost use Prim.Native.Nat.{_+_, _≤_};
@@ -28,22 +29,15 @@ ghost use Rattle.sections.specs.Within.{Within};
 // The bytes of the stream that are held at once.
 const ROOM: usize = 65536;
 
-// What is asked of each packet.
-struct Wish {
-    pid: u16,
-    all: bool,
-    hex: bool,
-}
-
 // How far the stream is worked: the bytes room[from..end] have come and are not worked yet. Out of step, `skipped` counts the
-// bytes since the last packet.
+// bytes since the last packet; in step it is 0.
 struct Run {
     reader: Reader,
     from: usize,
     end: usize,
-    is_in_step: bool,
     skipped: u64,
     is_over: bool,
+    is_failed: bool,
 }
 
 struct Got {
@@ -55,8 +49,8 @@ fn main() {
     let words = words::asked();
     let fault = words.fault;
     match fault {
-        Fault::None => read(words),
-        Fault::Help => usage::help(),
+        Fault::NONE => read(words),
+        Fault::HELP => usage::help(),
         _ => usage::complain(words.at, fault),
     }
 }
@@ -72,7 +66,7 @@ fn read(words: Words) {
 }
 
 fn read_file(words: Words, path: &[u8]) {
-    if words::same(path, b"-") {
+    if words::line_of(path, b"-\n") == 0 {
         work(STDIN_FILENO, words, b"standard input");
         return;
     }
@@ -99,7 +93,8 @@ fn work(fd: i32, words: Words, name: &[u8]) {
     let mut room = [0u8; ROOM];
     let mut buffer = [0u8; Reader::BUFFER_SIZE];
     let mut sums = [0u64; totals::COUNT];
-    work_all(fd, words, name, &mut room, &mut buffer, &mut sums);
+    let run = work_all(fd, words, &mut room, &mut buffer, &mut sums);
+    finish(run, words.pid, name, &mut sums);
 }
 
 // A read of no bytes finds a directory, before anything is printed.
@@ -109,55 +104,49 @@ fn is_readable(fd: i32) -> bool {
 }
 
 // A proved loop has to end, and nothing says that the input does. So it counts its turns down, from a number that no run uses up.
-fn work_all(
-    fd: i32,
-    words: Words,
-    name: &[u8],
-    room: &mut [u8],
-    buffer: &mut [u8],
-    sums: &mut [u64],
-) {
-    let wish = wish_of(words);
-    let mut run = begun(words, sums);
+fn work_all(fd: i32, words: Words, room: &mut [u8], buffer: &mut [u8], sums: &mut [u64]) -> Run
+    ensures { λ r. ⌜ r .from ≤ r .end ⌝ }
+{
+    totals::add(
+        sums,
+        totals::NOT_WRITTEN,
+        lines::put_heading(words.pid, words.form),
+    );
+    let mut run = begun(words.form);
     let mut turns = u64::MAX;
-    while turns > 0 {
-        run = work_next(run, wish, fd, name, room, buffer, sums);
-        if run.is_over {
-            return;
-        }
+    while turns > 0 && !run.is_over {
+        run = work_next(run, words, fd, room, buffer, sums);
         turns -= 1;
     }
-}
-
-fn wish_of(words: Words) -> Wish {
-    Wish {
-        pid: words.pid,
-        all: words.all,
-        hex: words.hex,
-    }
+    run
 }
 
 // Nothing has come yet.
-fn begun(words: Words, sums: &mut [u64]) -> Run
+fn begun(form: u64) -> Run
     ensures { λ r. ⌜ (r .from ≡ 0) × (r .end ≡ 0) ⌝ }
 {
-    let form = words.form;
-    totals::add_if_not(sums, lines::put_heading(words.pid, form));
     Run {
-        reader: Reader::fresh(form),
+        reader: Reader::fresh(form_of(form)),
         from: 0,
         end: 0,
-        is_in_step: true,
         skipped: 0,
         is_over: false,
+        is_failed: false,
+    }
+}
+
+fn form_of(line: u64) -> Form {
+    match line {
+        FormLine::COMPACT => Form::Compact,
+        FormLine::FULL => Form::Full,
+        _ => Form::Once,
     }
 }
 
 fn work_next(
     run: Run,
-    wish: Wish,
+    words: Words,
     fd: i32,
-    name: &[u8],
     room: &mut [u8],
     buffer: &mut [u8],
     sums: &mut [u64],
@@ -171,10 +160,10 @@ fn work_next(
     let kind = next.kind;
     match kind {
         Kind::More => {
-            return work_more(run, wish, fd, name, room, sums);
+            return work_more(run, fd, room, sums);
         }
         _ => {
-            return work_bytes(run, to, kind, wish, &room[from..to], buffer, sums);
+            return work_bytes(run, to, kind, words, &room[from..to], buffer, sums);
         }
     }
 }
@@ -185,7 +174,7 @@ fn next_bytes(run: Run, room: &[u8]) -> Found
 {
     let from = run.from;
     let end = run.end;
-    input::next(run.is_in_step, &room[from..end])
+    input::next(run.skipped == 0, &room[from..end])
 }
 
 // Works the bytes that end at `to`.
@@ -193,7 +182,7 @@ fn work_bytes(
     run: Run,
     to: usize,
     kind: Kind,
-    wish: Wish,
+    words: Words,
     bytes: &[u8],
     buffer: &mut [u8],
     sums: &mut [u64],
@@ -202,24 +191,18 @@ fn work_bytes(
 {
     match kind {
         Kind::Packet => {
-            let reader = run.reader;
-            let after = work_packet(reader, wish, bytes, buffer, sums);
+            tell_skipped(run.skipped, sums);
+            let after = work_packet(run.reader, words, bytes, buffer, sums);
+            totals::add(sums, totals::PACKETS, 1);
             return run.behind(to, after);
         }
         Kind::Damaged => {
-            refuse(Answer::NO_SYNC_BYTE, wish, sums);
+            refuse(Answer::NO_SYNC_BYTE, words.all, sums);
             totals::add(sums, totals::PACKETS, 1);
-            return run.at(to, true, 0);
-        }
-        Kind::NoPacket => {
-            return run.at(to, false, totals::sum(run.skipped, 1));
-        }
-        Kind::InStep => {
-            tell_skipped(run.skipped, sums);
-            return run.at(to, true, 0);
+            return run.at(to, 0);
         }
         _ => {
-            return run.at(to, false, 0);
+            return run.at(to, totals::sum(run.skipped, 1));
         }
     }
 }
@@ -233,62 +216,61 @@ impl Run {
             reader,
             from: to,
             end: self.end,
-            is_in_step: true,
             skipped: 0,
             is_over: false,
+            is_failed: false,
         }
     }
 
-    fn at(mut self, to: usize, is_in_step: bool, skipped: u64) -> Run
+    fn at(mut self, to: usize, skipped: u64) -> Run
         ensures { λ r. ⌜ (r .from ≡ to) × (r .end ≡ self .end) ⌝ }
     {
         self.from = to;
-        self.is_in_step = is_in_step;
         self.skipped = skipped;
         self
     }
 
     // The bytes that are not worked yet now stand at the room's start, and end there.
-    fn with_bytes(mut self, end: usize) -> Run
+    fn with_bytes(mut self, end: usize, got: Got) -> Run
         ensures { λ r. ⌜ (r .from ≡ 0) × (r .end ≡ end) ⌝ }
     {
         self.from = 0;
         self.end = end;
+        self.is_over = got.count == 0;
+        self.is_failed = got.is_failed;
         self
     }
 
     fn over(mut self) -> Run
-        ensures { λ r. ⌜ (r .from ≡ 0) × (r .end ≡ 0) ⌝ }
+        ensures { λ r. ⌜ (r .from ≡ self .from) × (r .end ≡ self .end) ⌝ }
     {
-        self.from = 0;
-        self.end = 0;
         self.is_over = true;
         self
     }
 }
 
 fn tell_skipped(skipped: u64, sums: &mut [u64]) {
-    let is_written = lines::put_skipped(totals::of(sums, totals::PACKETS), skipped);
-    totals::add_if_not(sums, is_written);
+    if skipped == 0 {
+        return;
+    }
+    let failed = lines::put_skipped(totals::of(sums, totals::PACKETS), skipped);
+    totals::add(sums, totals::NOT_WRITTEN, failed);
     totals::add(sums, totals::SKIPPED, skipped);
 }
 
 // The reader is fed the packets of its PID.
 fn work_packet(
     reader: Reader,
-    wish: Wish,
+    words: Words,
     packet: &[u8],
     buffer: &mut [u8],
     sums: &mut [u64],
 ) -> Reader {
-    if pid_of(packet) == wish.pid {
-        let after = both_steps(reader, wish, packet, buffer, sums);
-        totals::add(sums, totals::OF_PID, 1);
-        totals::add(sums, totals::PACKETS, 1);
-        return after;
+    if pid_of(packet) != words.pid {
+        return reader;
     }
-    totals::add(sums, totals::PACKETS, 1);
-    reader
+    totals::add(sums, totals::OF_PID, 1);
+    both_steps(reader, words, packet, buffer, sums)
 }
 
 // The PID of a packet; a number that is none where it is refused.
@@ -301,20 +283,20 @@ fn pid_of(packet: &[u8]) -> u16 {
 
 fn both_steps(
     reader: Reader,
-    wish: Wish,
+    words: Words,
     packet: &[u8],
     buffer: &mut [u8],
     sums: &mut [u64],
 ) -> Reader {
     let tail = reader.tail(packet, buffer);
-    tell(tail, wish, packet, buffer, sums);
+    tell(tail, words, packet, buffer, sums);
     let between = tail.reader;
     let head = between.head(packet, buffer);
     let after = head.reader;
     if both_refuse(head.answer) {
         return after;
     }
-    tell(head, wish, packet, buffer, sums);
+    tell(head, words, packet, buffer, sums);
     after
 }
 
@@ -330,56 +312,48 @@ fn both_refuse(answer: u8) -> bool {
     answer <= Answer::POINTER_BEYOND_REST
 }
 
-fn tell<'a>(step: Step, wish: Wish, packet: &'a [u8], buffer: &'a [u8], sums: &mut [u64]) {
+fn tell<'a>(step: Step, words: Words, packet: &'a [u8], buffer: &'a [u8], sums: &mut [u64]) {
     if step.answer == Answer::DELIVERED {
-        let reader = step.reader;
-        let form = reader.form;
         let section = reader::section(packet, buffer, step.answer, step.place);
-        deliver(form, section, wish, sums);
+        deliver(section, words, sums);
         return;
     }
     if Answer::PACKET_SIZE <= step.answer {
-        refuse(step.answer, wish, sums);
+        refuse(step.answer, words.all, sums);
     }
 }
 
-fn deliver(form: Form, section: &[u8], wish: Wish, sums: &mut [u64]) {
-    let number = totals::of(sums, totals::PACKETS);
-    let is_written = lines::put_section(number, form, section);
-    if wish.hex {
+fn deliver(section: &[u8], words: Words, sums: &mut [u64]) {
+    let failed = lines::put_section(totals::of(sums, totals::PACKETS), words.form, section);
+    if words.hex {
         text::put_bytes(section);
     }
-    totals::add_if_not(sums, is_written);
+    totals::add(sums, totals::NOT_WRITTEN, failed);
     totals::add(sums, Answer::DELIVERED as usize, 1);
 }
 
-fn refuse(answer: u8, wish: Wish, sums: &mut [u64]) {
+fn refuse(answer: u8, is_told: bool, sums: &mut [u64]) {
     totals::add(sums, answer as usize, 1);
-    if wish.all {
-        let is_written = lines::put_refused(totals::of(sums, totals::PACKETS), answer);
-        totals::add_if_not(sums, is_written);
+    totals::add(sums, totals::REFUSED, 1);
+    if is_told {
+        let failed = lines::put_refused(totals::of(sums, totals::PACKETS), answer);
+        totals::add(sums, totals::NOT_WRITTEN, failed);
     }
 }
 
 // Reads more, unless what was told could not be written.
-fn work_more(run: Run, wish: Wish, fd: i32, name: &[u8], room: &mut [u8], sums: &mut [u64]) -> Run
+fn work_more(run: Run, fd: i32, room: &mut [u8], sums: &[u64]) -> Run
     requires { ⌜ Within run (now room) ⌝ }
     ensures { λ r. ⌜ Within r (now (room .exit)) ⌝ }
 {
     if totals::of(sums, totals::NOT_WRITTEN) != 0 {
-        fail(b"standard output");
         return run.over();
     }
     let from = run.from;
-    let end = run.end;
-    let left = end - from;
+    let left = run.end - from;
     move_down(room, from, left);
     let got = read_some(fd, &mut room[left..]);
-    if got.count == 0 {
-        finish(run, wish, name, got.is_failed, sums);
-        return run.over();
-    }
-    run.with_bytes(left + got.count)
+    run.with_bytes(left + got.count, got)
 }
 
 fn read_some(fd: i32, rest: &mut [u8]) -> Got
@@ -404,14 +378,18 @@ fn move_down(room: &mut [u8], from: usize, count: usize)
 }
 
 // The input is over, or could not be read on: writes the totals, and says on standard error what was wrong.
-fn finish(run: Run, wish: Wish, name: &[u8], is_failed: bool, sums: &mut [u64])
+fn finish(run: Run, pid: u16, name: &[u8], sums: &mut [u64])
     requires { ⌜ run .from ≤ run .end ⌝ }
 {
-    if is_failed {
+    if totals::of(sums, totals::NOT_WRITTEN) != 0 {
+        fail(b"standard output");
+        return;
+    }
+    if run.is_failed {
         fail(name);
     }
     add_rest(run, sums);
-    if !totals::put_all(wish.pid, sums) {
+    if totals::put_all(pid, sums) != 0 {
         fail(b"standard output");
     }
     if totals::of(sums, totals::PACKETS) == 0 {
@@ -423,10 +401,9 @@ fn finish(run: Run, wish: Wish, name: &[u8], is_failed: bool, sums: &mut [u64])
 fn add_rest(run: Run, sums: &mut [u64])
     requires { ⌜ run .from ≤ run .end ⌝ }
 {
-    let reader = run.reader;
-    totals::add(sums, totals::KEPT, kept(reader));
+    totals::add(sums, totals::KEPT, kept(run.reader));
     let rest = (run.end - run.from) as u64;
-    if run.is_in_step {
+    if run.skipped == 0 {
         totals::add(sums, totals::REST, rest);
         return;
     }

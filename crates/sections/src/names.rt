@@ -1,9 +1,8 @@
 // What numbers mean, in words. Each call writes a form in which the name has a place.
 use crate::text::put_named;
 
-// With the name of a table of ISO/IEC 13818-1, - for any other.
-pub fn put_with_table(form: &[u8], numbers: &[u64], table_id: u8) -> bool {
-    let line = if table_id < 4 { table_id } else { 4 };
+// With the name of a table of ISO/IEC 13818-1, - for any other, and of the time when it holds.
+pub fn put_with_table(form: &[u8], numbers: &[u64]) -> u64 {
     put_named(
         form,
         numbers,
@@ -11,13 +10,22 @@ pub fn put_with_table(form: &[u8], numbers: &[u64], table_id: u8) -> bool {
           CAT \n\
           PMT \n\
           TSDT\n\
-          -   \n",
-        line,
+          -   \n\
+          current\n\
+          next   \n",
     )
 }
 
+pub fn table_line(table_id: u8) -> u64 {
+    if table_id < 4 { table_id as u64 } else { 4 }
+}
+
+pub fn when_line(is_current: bool) -> u64 {
+    if is_current { 5 } else { 6 }
+}
+
 // With the meaning of an answer, in the order of document 01's table.
-pub fn put_with_meaning(form: &[u8], numbers: &[u64], answer: u8) -> bool {
+pub fn put_with_meaning(form: &[u8], numbers: &[u64]) -> u64 {
     put_named(
         form,
         numbers,
@@ -48,12 +56,11 @@ pub fn put_with_meaning(form: &[u8], numbers: &[u64], answer: u8) -> bool {
           no entry fits here\n\
           state not sound\n\
           position above the body's length\n",
-        answer,
     )
 }
 
 // With a stream type's name in short, after table 2-34 of Rec. ITU-T H.222.0 (06/2021) | ISO/IEC 13818-1; at most 23 letters.
-pub fn put_with_stream_type(form: &[u8], numbers: &[u64], stream_type: u8) -> bool {
+pub fn put_with_stream_type(form: &[u8], numbers: &[u64]) -> u64 {
     put_named(
         form,
         numbers,
@@ -114,14 +121,13 @@ pub fn put_with_stream_type(form: &[u8], numbers: &[u64], stream_type: u8) -> bo
           reserved\n\
           IPMP\n\
           user private\n",
-        type_line(stream_type),
     )
 }
 
 // The names end with those for 0x36 to 0x7e, 0x7f, and 0x80 to 0xff.
-fn type_line(stream_type: u8) -> u8 {
+pub fn type_line(stream_type: u8) -> u64 {
     match stream_type {
-        0x00..=0x36 => stream_type,
+        0x00..=0x36 => stream_type as u64,
         0x37..=0x7e => 0x36,
         0x7f => 0x37,
         _ => 0x38,

@@ -4,7 +4,7 @@ ghost use Prim.Native.Nat.{_+_, _≤_, _<_};
 ghost use lib.ListN.{length};
 
 // In the form of a line a run of these stands for a number: decimal, at the right or the left of the run's width, or
-// hexadecimal with that many digits at least. The last one stands for a name.
+// hexadecimal with that many digits at least. The last one stands for a name, the number for its line in the names.
 const RIGHT: u8 = b'#';
 
 const LEFT: u8 = b'<';
@@ -19,101 +19,74 @@ const ROW: usize = 16;
 // Room for most forms; what is longer is written in parts.
 const ROOM: usize = 256;
 
-// Writes a form with the numbers in their places, and answers whether it was written.
-pub fn put(form: &[u8], numbers: &[u64]) -> bool {
-    put_named(form, numbers, b"", 0)
+// Writes a form with the numbers in their places, and answers how many writes failed: 0 or 1.
+pub fn put(form: &[u8], numbers: &[u64]) -> u64 {
+    put_named(form, numbers, b"")
 }
 
-// The same, with the name that stands in that line of the names, the first one for 0.
-pub fn put_named(form: &[u8], numbers: &[u64], names: &[u8], line: u8) -> bool {
+// The same, with names.
+pub fn put_named(form: &[u8], numbers: &[u64], names: &[u8]) -> u64 {
     let mut room = [0u8; ROOM];
     let page: &mut [u8] = &mut room;
-    let end = fill(page, 0, form, numbers, names, line);
+    let end = fill(page, 0, form, numbers, names);
     write(page, end)
 }
 
 // Writes bytes in lines of sixteen, each line with the place of its first.
-pub fn put_bytes(bytes: &[u8]) -> bool {
+pub fn put_bytes(bytes: &[u8]) {
     let mut room = [0u8; ROOM];
     let page: &mut [u8] = &mut room;
     let end = fill_bytes(page, bytes);
-    write(page, end)
+    write(page, end);
 }
 
-fn write(page: &[u8], end: usize) -> bool {
+fn write(page: &[u8], end: usize) -> u64 {
     if end <= page.len() {
-        return io::write_all(STDOUT_FILENO, &page[0..end]);
+        if !io::write_all(STDOUT_FILENO, &page[0..end]) {
+            return 1;
+        }
     }
-    true
+    0
 }
 
 // Each `fill..` adds text to the page behind the bytes that it has, and answers how many it has then.
-fn fill(
-    page: &mut [u8],
-    before: usize,
-    form: &[u8],
-    numbers: &[u64],
-    names: &[u8],
-    line: u8,
-) -> usize {
+fn fill(page: &mut [u8], before: usize, form: &[u8], numbers: &[u64], names: &[u8]) -> usize {
     let mut end = before;
     let mut i = 0;
     let mut used = 0;
     while i < form.len() {
+        let mark = form[i];
         let width = run_at(form, i);
-        let n = number_at(numbers, used);
-        end = fill_run(page, end, form[i], width, n, names, line);
-        used += one_if_number(form[i]);
+        if is_place(mark) {
+            end = fill_place(page, end, mark, width, number_at(numbers, used), names);
+            used += 1;
+        } else {
+            end = fill_repeated(page, end, mark, 0, width);
+        }
         i += width;
     }
     end
 }
 
-fn fill_run(
-    page: &mut [u8],
-    end: usize,
-    mark: u8,
-    width: usize,
-    n: u64,
-    names: &[u8],
-    line: u8,
-) -> usize {
-    match mark {
-        RIGHT => fill_right(page, end, n, width),
-        LEFT => fill_left(page, end, n, width),
-        HEXADECIMAL => fill_hexadecimal(page, end, n, width),
-        NAME => fill_name(page, end, names, line),
-        _ => fill_byte(page, end, mark),
-    }
-}
-
-// How long the run is that starts there: 1 where it stands for no number.
+// How often the byte there stands, one behind the other.
 fn run_at(form: &[u8], from: usize) -> usize
     requires { ⌜ from < length (now form) ⌝ }
     ensures { λ r. ⌜ (0 < r) × (from + r ≤ length (now (form .entry))) ⌝ }
 {
-    let mark = form[from];
     let mut end = from + 1;
-    while end < form.len() {
-        if one_if_number(mark) == 0 {
-            return 1;
-        }
-        if form[end] != mark {
-            return end - from;
-        }
+    while end < form.len() && form[end] == form[from] {
         end += 1;
     }
     end - from
 }
 
-fn one_if_number(mark: u8) -> usize
-    ensures { λ r. ⌜ r ≤ 1 ⌝ }
-{
+fn is_place(mark: u8) -> bool {
     match mark {
-        RIGHT => 1,
-        LEFT => 1,
-        HEXADECIMAL => 1,
-        _ => 0,
+        RIGHT => true,
+        LEFT => true,
+        HEXADECIMAL => true,
+        NAME => true,
+        _ => false,
     }
 }
 
@@ -124,10 +97,19 @@ fn number_at(numbers: &[u64], at: usize) -> u64 {
     0
 }
 
+fn fill_place(page: &mut [u8], end: usize, mark: u8, width: usize, n: u64, names: &[u8]) -> usize {
+    match mark {
+        RIGHT => fill_right(page, end, n, width),
+        LEFT => fill_left(page, end, n, width),
+        HEXADECIMAL => fill_hexadecimal(page, end, n, width),
+        _ => fill_text(page, end, line_at(names, n)),
+    }
+}
+
 fn fill_right(page: &mut [u8], end: usize, n: u64, width: usize) -> usize {
     let mut digits = [0u8; 20];
     let count = io::decimal(n, &mut digits);
-    let start = fill_blanks(page, end, width, count);
+    let start = fill_repeated(page, end, b' ', count, width);
     fill_text(page, start, &digits[..count])
 }
 
@@ -135,7 +117,7 @@ fn fill_left(page: &mut [u8], end: usize, n: u64, width: usize) -> usize {
     let mut digits = [0u8; 20];
     let count = io::decimal(n, &mut digits);
     let behind = fill_text(page, end, &digits[..count]);
-    fill_blanks(page, behind, width, count)
+    fill_repeated(page, behind, b' ', count, width)
 }
 
 fn fill_hexadecimal(page: &mut [u8], end: usize, n: u64, width: usize) -> usize {
@@ -144,12 +126,12 @@ fn fill_hexadecimal(page: &mut [u8], end: usize, n: u64, width: usize) -> usize 
     fill_text(page, end, &digits[..count])
 }
 
-// So many blanks that the digits fill the width with them.
-fn fill_blanks(page: &mut [u8], before: usize, width: usize, digits: usize) -> usize {
+// The byte so often that with those that are done the width is full.
+fn fill_repeated(page: &mut [u8], before: usize, byte: u8, done: usize, width: usize) -> usize {
     let mut end = before;
-    let mut i = digits;
+    let mut i = done;
     while i < width {
-        end = fill_byte(page, end, b' ');
+        end = fill_byte(page, end, byte);
         i += 1;
     }
     end
@@ -165,33 +147,22 @@ fn fill_text(page: &mut [u8], before: usize, text: &[u8]) -> usize {
     end
 }
 
-// The line of the names, without its end.
-fn fill_name(page: &mut [u8], before: usize, names: &[u8], line: u8) -> usize {
-    let mut end = before;
-    let mut i = 0;
+// The line with that number, from 0 on, without its end.
+pub fn line_at(lines: &[u8], line: u64) -> &[u8] {
     let mut passed = 0;
-    while i < names.len() {
-        end = fill_byte_if(page, end, names[i], passed == line as usize);
-        passed += one_if_end(names[i]);
-        i += 1;
+    let mut from = 0;
+    let mut to = 0;
+    while to < lines.len() {
+        if lines[to] == b'\n' {
+            if passed == line {
+                return &lines[from..to];
+            }
+            passed += 1;
+            from = to + 1;
+        }
+        to += 1;
     }
-    end
-}
-
-fn fill_byte_if(page: &mut [u8], end: usize, byte: u8, is_wanted: bool) -> usize {
-    if byte == b'\n' {
-        return end;
-    }
-    if is_wanted {
-        return fill_byte(page, end, byte);
-    }
-    end
-}
-
-fn one_if_end(byte: u8) -> usize
-    ensures { λ r. ⌜ r ≤ 1 ⌝ }
-{
-    if byte == b'\n' { 1 } else { 0 }
+    &lines[from..to]
 }
 
 fn fill_bytes(page: &mut [u8], bytes: &[u8]) -> usize {
@@ -206,13 +177,24 @@ fn fill_bytes(page: &mut [u8], bytes: &[u8]) -> usize {
 
 fn fill_byte_at(page: &mut [u8], end: usize, at: usize, byte: u8) -> usize {
     if at % ROW != 0 {
-        return fill(page, end, b" $$", &[byte as u64], b"", 0);
+        return fill(page, end, b" $$", &[byte as u64], b"");
     }
-    let numbers = [at as u64, byte as u64];
+    let start = fill_line_end(page, end, at);
+    fill(
+        page,
+        start,
+        b"  bytes   #####  $$",
+        &[at as u64, byte as u64],
+        b"",
+    )
+}
+
+// The end of the line before that place, if there is one.
+fn fill_line_end(page: &mut [u8], end: usize, at: usize) -> usize {
     if at == 0 {
-        return fill(page, end, b"  bytes   #####  $$", &numbers, b"", 0);
+        return end;
     }
-    fill(page, end, b"\n  bytes   #####  $$", &numbers, b"", 0)
+    fill_byte(page, end, b'\n')
 }
 
 // A full page is written first.

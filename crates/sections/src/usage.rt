@@ -1,5 +1,5 @@
 // How the program is asked, and what it says where it is asked wrongly.
-use crate::words::Fault;
+use crate::text::line_at;
 use libc::STDERR_FILENO;
 use libc::STDOUT_FILENO;
 
@@ -10,25 +10,22 @@ pub fn say(what: &[u8], why: &[u8]) {
     io::write_all(STDERR_FILENO, why);
 }
 
-// What is wrong with the word there.
-pub fn complain(at: usize, fault: Fault) {
+// What is wrong with the word there; one that is too long has no bytes here.
+pub fn complain(at: usize, fault: u8) {
     let mut room = io::buffer();
     let length = os::arg(at, &mut room);
-    complain_of(&room[..length], fault);
+    let faults = b"\n\
+          \n\
+          : there is no such option\n \
+          takes a number from 0 to 8191 (0x1fff)\n \
+          takes compact, full or once\n\
+          : a second file; one is read\n\
+          a word is longer than 4096 bytes\n";
+    say(&room[..length], line_at(faults, fault as u64));
     io::write_all(
         STDERR_FILENO,
-        b"usage: sections [--pid N] [--form compact|full|once] [--all] [--hex] [FILE|-]\n",
+        b"\nusage: sections [--pid N] [--form compact|full|once] [--all] [--hex] [FILE|-]\n",
     );
-}
-
-fn complain_of(word: &[u8], fault: Fault) {
-    match fault {
-        Fault::NoOption => say(word, b": there is no such option\n"),
-        Fault::NoPid => say(b"--pid", b" takes a number from 0 to 8191 (0x1fff)\n"),
-        Fault::NoForm => say(b"--form", b" takes compact, full or once\n"),
-        Fault::SecondFile => say(word, b": a second file; one is read\n"),
-        _ => say(b"a word", b" is longer than 4096 bytes\n"),
-    }
 }
 
 pub fn help() {

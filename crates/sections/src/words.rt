@@ -1,46 +1,56 @@
 // The words that the program is started with.
 use packet::Pid;
-use reader::Form;
 
-pub enum Fault {
-    None,
-    Help,
-    NoOption,
-    NoPid,
-    NoForm,
-    SecondFile,
-    TooLong,
+// What is wrong with the words, by its number.
+pub struct Fault;
+
+impl Fault {
+    pub const NONE: u8 = 0;
+
+    pub const HELP: u8 = 1;
+
+    pub const NO_OPTION: u8 = 2;
+
+    pub const NO_PID: u8 = 3;
+
+    pub const NO_FORM: u8 = 4;
+
+    pub const SECOND_FILE: u8 = 5;
+
+    pub const TOO_LONG: u8 = 6;
 }
 
-// What the words before `at` ask for, or what is wrong with the word at `at`. The file is the number of its word, 0 for none.
+// The forms, by the line of their names.
+pub struct FormLine;
+
+impl FormLine {
+    pub const NAMES: u64 = 3;
+
+    pub const COMPACT: u64 = 0;
+
+    pub const FULL: u64 = 1;
+}
+
+// What the words ask for. The file is the number of its word, 0 for none; `at` is the number of the last word that is no value. Until
+// the value of an option comes, the fault is that it is missing.
 pub struct Words {
     pub pid: u16,
-    pub form: Form,
+    pub form: u64,
     pub all: bool,
     pub hex: bool,
     pub file: usize,
     pub at: usize,
-    pub fault: Fault,
+    pub fault: u8,
+    pub goes_on: bool,
 }
 
-enum FormAnswer {
-    Is(Form),
-    None,
-}
-
-enum PidAnswer {
-    Is(u16),
-    None,
-}
-
-// A word takes one turn at least.
 pub fn asked() -> Words {
     let count = os::arg_count();
     let mut words = Words::none();
-    let mut turns = count;
-    while turns > 0 && words.goes_on(count) {
-        words = words.with_next();
-        turns -= 1;
+    let mut at = 1;
+    while at < count && words.goes_on {
+        words = words.with_next(at);
+        at += 1;
     }
     words
 }
@@ -49,127 +59,81 @@ impl Words {
     fn none() -> Words {
         Words {
             pid: Pid::PAT,
-            form: Form::Full,
+            form: FormLine::FULL,
             all: false,
             hex: false,
             file: 0,
-            at: 1,
-            fault: Fault::None,
+            at: 0,
+            fault: Fault::NONE,
+            goes_on: true,
         }
     }
 
-    fn goes_on(self, count: usize) -> bool {
+    // A value that is too long has no bytes here.
+    fn with_next(self, at: usize) -> Words {
+        let mut room = io::buffer();
+        let length = os::arg(at, &mut room);
+        let is_whole = os::errno() == 0;
         let fault = self.fault;
         match fault {
-            Fault::None => self.at < count,
-            _ => false,
+            Fault::NO_PID => self.with_pid(&room[..length]),
+            Fault::NO_FORM => self.with_form(&room[..length]),
+            _ => self.with_word(at, &room[..length], is_whole),
         }
     }
 
-    fn with_next(self) -> Words {
-        let mut room = io::buffer();
-        let length = os::arg(self.at, &mut room);
-        if os::errno() != 0 {
-            return self.wrong(Fault::TooLong);
+    fn with_word(mut self, at: usize, word: &[u8], is_whole: bool) -> Words {
+        self.at = at;
+        if !is_whole {
+            return self.wrong(Fault::TOO_LONG);
         }
-        self.with_word(&room[..length])
-    }
-
-    fn with_word(self, word: &[u8]) -> Words {
-        if same(word, b"--pid") {
-            return self.with_pid();
+        match line_of(word, b"--pid\n--form\n--all\n--hex\n--help\n") {
+            0 => self.fault = Fault::NO_PID,
+            1 => self.fault = Fault::NO_FORM,
+            2 => self.all = true,
+            3 => self.hex = true,
+            4 => return self.wrong(Fault::HELP),
+            _ => return self.with_file(word),
         }
-        if same(word, b"--form") {
-            return self.with_form();
-        }
-        if same(word, b"--help") {
-            return self.wrong(Fault::Help);
-        }
-        self.with_mark(word)
-    }
-
-    fn with_mark(mut self, word: &[u8]) -> Words {
-        if same(word, b"--all") {
-            self.all = true;
-            return self.behind();
-        }
-        if same(word, b"--hex") {
-            self.hex = true;
-            return self.behind();
-        }
-        self.with_file(word)
+        self
     }
 
     fn with_file(mut self, word: &[u8]) -> Words {
         if is_option(word) {
-            return self.wrong(Fault::NoOption);
+            return self.wrong(Fault::NO_OPTION);
         }
         if self.file != 0 {
-            return self.wrong(Fault::SecondFile);
+            return self.wrong(Fault::SECOND_FILE);
         }
         self.file = self.at;
-        self.behind()
-    }
-
-    fn with_pid(self) -> Words {
-        let mut room = io::buffer();
-        let length = os::arg(one_more(self.at), &mut room);
-        match number(&room[..length]) {
-            PidAnswer::Is(pid) => self.with_pid_of(pid),
-            PidAnswer::None => self.behind().wrong(Fault::NoPid),
-        }
-    }
-
-    fn with_pid_of(mut self, pid: u16) -> Words {
-        self.pid = pid;
-        self.behind().behind()
-    }
-
-    fn with_form(self) -> Words {
-        let mut room = io::buffer();
-        let length = os::arg(one_more(self.at), &mut room);
-        match form(&room[..length]) {
-            FormAnswer::Is(form) => self.with_form_of(form),
-            FormAnswer::None => self.behind().wrong(Fault::NoForm),
-        }
-    }
-
-    fn with_form_of(self, form: Form) -> Words {
-        let fault = self.fault;
-        let words = Words {
-            pid: self.pid,
-            form,
-            all: self.all,
-            hex: self.hex,
-            file: self.file,
-            at: self.at,
-            fault,
-        };
-        words.behind().behind()
-    }
-
-    fn wrong(self, fault: Fault) -> Words {
-        let form = self.form;
-        Words {
-            pid: self.pid,
-            form,
-            all: self.all,
-            hex: self.hex,
-            file: self.file,
-            at: self.at,
-            fault,
-        }
-    }
-
-    // Goes on behind the word.
-    fn behind(mut self) -> Words {
-        self.at = one_more(self.at);
         self
     }
-}
 
-fn one_more(n: usize) -> usize {
-    if n < usize::MAX { n + 1 } else { n }
+    fn with_pid(mut self, word: &[u8]) -> Words {
+        let pid = number(word);
+        if pid > Pid::MAX_VALUE as u32 {
+            return self.wrong(Fault::NO_PID);
+        }
+        self.pid = pid as u16;
+        self.fault = Fault::NONE;
+        self
+    }
+
+    fn with_form(mut self, word: &[u8]) -> Words {
+        let form = line_of(word, b"compact\nfull\nonce\n");
+        if form == FormLine::NAMES {
+            return self.wrong(Fault::NO_FORM);
+        }
+        self.form = form;
+        self.fault = Fault::NONE;
+        self
+    }
+
+    fn wrong(mut self, fault: u8) -> Words {
+        self.fault = fault;
+        self.goes_on = false;
+        self
+    }
 }
 
 // Whether a word begins as an option does; a - alone is standard input.
@@ -180,56 +144,51 @@ fn is_option(word: &[u8]) -> bool {
     word[0] == b'-'
 }
 
-pub fn same(word: &[u8], other: &[u8]) -> bool {
-    if word.len() != other.len() {
-        return false;
-    }
-    let mut is_same = true;
+// Which of the lines the word is, from 0 on; as many as there are where it is none.
+pub fn line_of(word: &[u8], lines: &[u8]) -> u64 {
+    let mut line = 0;
+    let mut same = 0;
     let mut i = 0;
-    while i < word.len() {
-        if word[i] != other[i] {
-            is_same = false;
+    while i < lines.len() {
+        if lines[i] == b'\n' {
+            if same == word.len() {
+                return line;
+            }
+            line += 1;
+            same = 0;
+        } else {
+            same = with_letter(word, same, lines[i]);
         }
         i += 1;
     }
-    is_same
+    line
 }
 
-fn form(word: &[u8]) -> FormAnswer {
-    if same(word, b"compact") {
-        return FormAnswer::Is(Form::Compact);
-    }
-    if same(word, b"full") {
-        return FormAnswer::Is(Form::Full);
-    }
-    if same(word, b"once") {
-        return FormAnswer::Is(Form::Once);
-    }
-    FormAnswer::None
-}
-
-// A PID, decimal or 0x and hexadecimal.
-fn number(word: &[u8]) -> PidAnswer {
-    if word.len() > 2 {
-        if same(&word[0..2], b"0x") {
-            return number_of(true, &word[2..]);
+// How many letters are the word's, one more if this one is its next; a number above all where it is not.
+fn with_letter(word: &[u8], same: usize, letter: u8) -> usize {
+    if same < word.len() {
+        if word[same] == letter {
+            return same + 1;
         }
     }
-    number_of(false, word)
+    usize::MAX
 }
 
-fn number_of(is_hexadecimal: bool, digits: &[u8]) -> PidAnswer {
-    if digits.len() == 0 {
-        return PidAnswer::None;
+// The number that a word is, decimal or 0x and hexadecimal; some number above the PIDs where it is none.
+fn number(word: &[u8]) -> u32 {
+    if word.len() == 0 {
+        return u32::MAX;
     }
-    let n = value(is_hexadecimal, digits);
-    if n <= Pid::MAX_VALUE as u32 {
-        return PidAnswer::Is(n as u16);
+    if word.len() > 2 {
+        if word[1] == b'x' {
+            if word[0] == b'0' {
+                return value(true, &word[2..]);
+            }
+        }
     }
-    PidAnswer::None
+    value(false, word)
 }
 
-// The number that the digits make, or some number above the PIDs.
 fn value(is_hexadecimal: bool, digits: &[u8]) -> u32 {
     let mut n = 0;
     let mut i = 0;

@@ -7,13 +7,16 @@ use Rattle.sections.proofs.work_all.Statement.{statement}
 use Rattle.sections.proofs.work_all.Tie as tie
 
 abbrev Inv-loop : tie.InvT-loop
-Inv-loop fd name room₀ buffer₀ sums₀ wish run₀ turns₀ room buffer sums run turns = Within run room × (length room ≡ length room₀) × (length buffer ≡ length buffer₀) × (length sums ≡ length sums₀)
+Inv-loop fd words room₀ buffer₀ sums₀ run₀ turns₀ room buffer sums run turns = Within run room × (length room ≡ length room₀) × (length buffer ≡ length buffer₀) × (length sums ≡ length sums₀)
 
 abbrev μ-loop : tie.MeasureT-loop
-μ-loop fd name room₀ buffer₀ sums₀ wish run₀ turns₀ room buffer sums run turns = turns
+μ-loop fd words room₀ buffer₀ sums₀ run₀ turns₀ room buffer sums run turns = turns
 
-wish-of-requires : tie.Need-wish-of-requires Inv-loop μ-loop
-wish-of-requires c κs = search needs
+put-heading-requires : tie.Need-put-heading-requires Inv-loop μ-loop
+put-heading-requires c κs = search needs
+
+add-requires : tie.Need-add-requires Inv-loop μ-loop
+add-requires c κs = search needs
 
 begun-requires : tie.Need-begun-requires Inv-loop μ-loop
 begun-requires c κs = search needs
@@ -23,6 +26,15 @@ loop-holds c = search needs
 
 work-next-requires : tie.Need-work-next-requires Inv-loop μ-loop
 work-next-requires c κs = search needs
+
+sub-turns : tie.Need-sub-turns Inv-loop μ-loop
+sub-turns c = search needs
+
+loop-less : tie.Need-loop-less Inv-loop μ-loop
+loop-less c = search needs
+
+loop-again : tie.Need-loop-again Inv-loop μ-loop
+loop-again c = search needs
 
 same-length : tie.Need-same-length Inv-loop μ-loop
 same-length c = search needs
@@ -35,15 +47,6 @@ same-length-3 c = search needs
 
 returns : tie.Need-returns Inv-loop μ-loop
 returns c = search needs
-
-sub-turns : tie.Need-sub-turns Inv-loop μ-loop
-sub-turns c = search needs
-
-loop-less : tie.Need-loop-less Inv-loop μ-loop
-loop-less c = search needs
-
-loop-again : tie.Need-loop-again Inv-loop μ-loop
-loop-again c = search needs
 
 same-length-4 : tie.Need-same-length-4 Inv-loop μ-loop
 same-length-4 c = search needs
@@ -63,17 +66,18 @@ work-all-spec =
     (tie.spec
     Inv-loop
     μ-loop
-    wish-of-requires
+    put-heading-requires
+    add-requires
     begun-requires
     loop-holds
     work-next-requires
+    sub-turns
+    loop-less
+    loop-again
     same-length
     same-length-2
     same-length-3
     returns
-    sub-turns
-    loop-less
-    loop-again
     same-length-4
     same-length-5
     same-length-6

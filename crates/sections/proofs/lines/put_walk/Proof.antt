@@ -6,13 +6,10 @@ use Rattle.sections.proofs.lines.put_walk.Statement.{statement}
 use Rattle.sections.proofs.lines.put_walk.Tie as tie
 
 abbrev Inv-loop : tie.InvT-loop
-Inv-loop walk body position turn₀ calls₀ turn calls = calls ≤ length body + 1
+Inv-loop table-id body start position₀ calls₀ position calls = calls ≤ length body + 1
 
 abbrev μ-loop : tie.MeasureT-loop
-μ-loop walk body position turn₀ calls₀ turn calls = (length body + 1) - calls
-
-goes-on-requires : tie.Need-goes-on-requires Inv-loop μ-loop
-goes-on-requires c κs = search needs
+μ-loop table-id body start position₀ calls₀ position calls = (length body + 1) - calls
 
 loop-holds : tie.Need-loop-holds Inv-loop μ-loop
 loop-holds c = search needs
@@ -41,7 +38,6 @@ put-walk-spec =
     (tie.spec
     Inv-loop
     μ-loop
-    goes-on-requires
     loop-holds
     put-entry-requires
     add-calls

@@ -6,13 +6,10 @@ use Rattle.sections.proofs.text.run_at.Statement.{statement}
 use Rattle.sections.proofs.text.run_at.Tie as tie
 
 abbrev Inv-loop : tie.InvT-loop
-Inv-loop form from mark end₀ end = (from < end) × (end ≤ length form)
+Inv-loop form from end₀ end = (from < end) × (end ≤ length form)
 
 abbrev μ-loop : tie.MeasureT-loop
-μ-loop form from mark end₀ end = length form - end
-
-shared-slice-read-mark : tie.Need-shared-slice-read-mark Inv-loop μ-loop
-shared-slice-read-mark c = search needs
+μ-loop form from end₀ end = length form - end
 
 add-end : tie.Need-add-end Inv-loop μ-loop
 add-end c = search needs
@@ -20,20 +17,11 @@ add-end c = search needs
 loop-holds : tie.Need-loop-holds Inv-loop μ-loop
 loop-holds c = search needs
 
-one-if-number-requires : tie.Need-one-if-number-requires Inv-loop μ-loop
-one-if-number-requires c κs = search needs
+shared-slice-read-if1 : tie.Need-shared-slice-read-if1 Inv-loop μ-loop
+shared-slice-read-if1 c = search needs
 
-returns : tie.Need-returns Inv-loop μ-loop
-returns c = search needs
-
-shared-slice-read-if2 : tie.Need-shared-slice-read-if2 Inv-loop μ-loop
-shared-slice-read-if2 c = search needs
-
-sub-result : tie.Need-sub-result Inv-loop μ-loop
-sub-result c = search needs
-
-returns-2 : tie.Need-returns-2 Inv-loop μ-loop
-returns-2 c = search needs
+shared-slice-read-if1-2 : tie.Need-shared-slice-read-if1-2 Inv-loop μ-loop
+shared-slice-read-if1-2 c = search needs
 
 add-end-2 : tie.Need-add-end-2 Inv-loop μ-loop
 add-end-2 c = search needs
@@ -44,11 +32,11 @@ loop-less c = search needs
 loop-again : tie.Need-loop-again Inv-loop μ-loop
 loop-again c = search needs
 
-sub-result-2 : tie.Need-sub-result-2 Inv-loop μ-loop
-sub-result-2 c = search needs
+sub-result : tie.Need-sub-result Inv-loop μ-loop
+sub-result c = search needs
 
-returns-3 : tie.Need-returns-3 Inv-loop μ-loop
-returns-3 c = search needs
+returns : tie.Need-returns Inv-loop μ-loop
+returns c = search needs
 
 pub run-at-spec : {M : Type 1} → statement M
 run-at-spec =
@@ -56,16 +44,12 @@ run-at-spec =
     (tie.spec
     Inv-loop
     μ-loop
-    shared-slice-read-mark
     add-end
     loop-holds
-    one-if-number-requires
-    returns
-    shared-slice-read-if2
-    sub-result
-    returns-2
+    shared-slice-read-if1
+    shared-slice-read-if1-2
     add-end-2
     loop-less
     loop-again
-    sub-result-2
-    returns-3)
+    sub-result
+    returns)

@@ -1,13 +1,14 @@
--- `words::asked` is safe and ends: its turns are counted down. Assumes nothing.
+-- `words::asked` is safe and ends: each turn leaves fewer words. Assumes nothing.
+use Prim.Native.Nat.{_-_}
 use borrow.Author.Needs.{needs}
 use Rattle.sections.proofs.words.asked.Statement.{statement}
 use Rattle.sections.proofs.words.asked.Tie as tie
 
 abbrev Inv-loop : tie.InvT-loop
-Inv-loop count words₀ turns₀ words turns = Unit {0}
+Inv-loop count words₀ at₀ words at = Unit {0}
 
 abbrev μ-loop : tie.MeasureT-loop
-μ-loop count words₀ turns₀ words turns = turns
+μ-loop count words₀ at₀ words at = count - at
 
 arg-count-requires : tie.Need-arg-count-requires Inv-loop μ-loop
 arg-count-requires c κs = search needs
@@ -18,14 +19,11 @@ none-requires c κs = search needs
 loop-holds : tie.Need-loop-holds Inv-loop μ-loop
 loop-holds c = search needs
 
-goes-on-requires : tie.Need-goes-on-requires Inv-loop μ-loop
-goes-on-requires c κs = search needs
-
 with-next-requires : tie.Need-with-next-requires Inv-loop μ-loop
 with-next-requires c κs = search needs
 
-sub-turns : tie.Need-sub-turns Inv-loop μ-loop
-sub-turns c = search needs
+add-at : tie.Need-add-at Inv-loop μ-loop
+add-at c = search needs
 
 loop-less : tie.Need-loop-less Inv-loop μ-loop
 loop-less c = search needs
@@ -48,9 +46,8 @@ asked-spec =
     arg-count-requires
     none-requires
     loop-holds
-    goes-on-requires
     with-next-requires
-    sub-turns
+    add-at
     loop-less
     loop-again
     returns

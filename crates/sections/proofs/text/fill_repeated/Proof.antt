@@ -1,16 +1,16 @@
--- `text::fill_blanks` is safe and ends: each turn leaves fewer blanks, and the page keeps its length. Assumes nothing.
+-- `text::fill_repeated` is safe and ends: each turn leaves less of the width. Assumes nothing.
 use mathlib.Core.Path.{_≡_}
 use Prim.Native.Nat.{_-_}
 use lib.ListN.{length}
 use borrow.Author.Needs.{needs}
-use Rattle.sections.proofs.text.fill_blanks.Statement.{statement}
-use Rattle.sections.proofs.text.fill_blanks.Tie as tie
+use Rattle.sections.proofs.text.fill_repeated.Statement.{statement}
+use Rattle.sections.proofs.text.fill_repeated.Tie as tie
 
 abbrev Inv-loop : tie.InvT-loop
-Inv-loop page₀ before width digits end₀ i₀ page end i = length page ≡ length page₀
+Inv-loop page₀ before byte done width end₀ i₀ page end i = (length page ≡ length page₀)
 
 abbrev μ-loop : tie.MeasureT-loop
-μ-loop page₀ before width digits end₀ i₀ page end i = width - i
+μ-loop page₀ before byte done width end₀ i₀ page end i = width - i
 
 loop-holds : tie.Need-loop-holds Inv-loop μ-loop
 loop-holds c = search needs
@@ -33,8 +33,8 @@ same-length c = search needs
 returns : tie.Need-returns Inv-loop μ-loop
 returns c = search needs
 
-pub fill-blanks-spec : {M : Type 1} → statement M
-fill-blanks-spec =
+pub fill-repeated-spec : {M : Type 1} → statement M
+fill-repeated-spec =
     tie.close
     (tie.spec
     Inv-loop
