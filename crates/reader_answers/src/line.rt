@@ -1,4 +1,4 @@
-// A line for each request. Lines are made in a room of bytes, where they wait until the room is full or the input is over.
+// A line for each request, made in a room of bytes that is written when it is full and at the line's end.
 use libc::STDOUT_FILENO;
 use reader::Form;
 use reader::Holder;
@@ -10,51 +10,67 @@ ghost use Prim.Native.Nat.{_<_};
 // Adler-32's two sums are counted modulo this number, the largest prime below 65,536.
 const BASE: u32 = 65521;
 
-// Each `put` adds to the bytes that wait, and answers how many wait then.
-pub fn put_line<'a>(
-    lines: &mut [u8],
-    waiting: usize,
-    step: Step,
-    packet: &'a [u8],
-    buffer: &'a [u8],
-    asks_bytes: bool,
-) -> usize {
-    let reader = step.reader;
-    let form = reader.form;
-    let memory = reader.memory;
-    let place = step.place;
-    let holder = place.holder;
-    let section = reader::section(packet, buffer, step.answer, place);
-    let numbers = [
-        form_number(form),
-        one_if(memory.known),
-        memory.version as u64,
-        one_if(reader.is_open),
-        reader.held as u64,
-        reader.wanted as u64,
-        one_if(reader.is_sound()),
-        holder_number(holder),
-        place.start as u64,
-        place.len as u64,
-        section.len() as u64,
-        adler32(section) as u64,
-        buffer.len() as u64,
-        adler32(buffer) as u64,
-    ];
-    let answered = put_number(lines, waiting, step.answer as u64);
-    let end = put_numbers(lines, answered, &numbers);
+const ROOM: usize = 1024;
+
+pub fn put_line<'a>(step: Step, packet: &'a [u8], buffer: &'a [u8], asks_bytes: bool) {
+    let mut room = [0u8; ROOM];
+    let line: &mut [u8] = &mut room;
+    let section = reader::section(packet, buffer, step.answer, step.place);
+    let step_end = put_step(line, step);
+    let section_end = put_digest(line, step_end, section);
+    let buffer_end = put_digest(line, section_end, buffer);
     if asks_bytes {
-        let shown = put_bytes(lines, end, section);
-        let all_shown = put_bytes(lines, shown, buffer);
-        return put(lines, all_shown, b'\n');
+        let shown = put_bytes(line, buffer_end, section);
+        let end = put_bytes(line, shown, buffer);
+        put_end(line, end);
+        return;
     }
-    put(lines, end, b'\n')
+    put_end(line, buffer_end);
 }
 
-// Writes the first bytes of the lines.
-pub fn write(lines: &[u8], waiting: usize) {
-    if waiting <= lines.len() {
-        io::write_all(STDOUT_FILENO, &lines[0..waiting]);
+fn put_end(line: &mut [u8], waiting: usize) {
+    let end = put(line, waiting, b'\n');
+    write(line, end);
+}
+
+// Each other `put` adds to the bytes that wait, and answers how many wait then.
+fn put_step(line: &mut [u8], step: Step) -> usize {
+    let answered = put_number(line, 0, step.answer as u64);
+    let end = put_reader(line, answered, step.reader);
+    put_place(line, end, step.place)
+}
+
+fn put_reader(line: &mut [u8], waiting: usize, reader: Reader) -> usize {
+    let form = reader.form;
+    let memory = reader.memory;
+    let numbers = [
+        form_number(form),
+        memory.known as u64,
+        memory.version as u64,
+        reader.is_open as u64,
+        reader.held as u64,
+        reader.wanted as u64,
+        reader.is_sound() as u64,
+    ];
+    put_numbers(line, waiting, &numbers)
+}
+
+fn put_place(line: &mut [u8], waiting: usize, place: Place) -> usize {
+    let holder = place.holder;
+    let numbers = [holder_number(holder), place.start as u64, place.len as u64];
+    put_numbers(line, waiting, &numbers)
+}
+
+// How many bytes there are, and their digest.
+fn put_digest(line: &mut [u8], waiting: usize, bytes: &[u8]) -> usize {
+    let numbers = [bytes.len() as u64, adler32(bytes) as u64];
+    put_numbers(line, waiting, &numbers)
+}
+
+// Writes the first bytes of the line.
+fn write(line: &[u8], waiting: usize) {
+    if waiting <= line.len() {
+        io::write_all(STDOUT_FILENO, &line[0..waiting]);
     }
 }
 
@@ -72,10 +88,6 @@ fn holder_number(holder: Holder) -> u64 {
         Holder::Packet => 1,
         Holder::Buffer => 2,
     }
-}
-
-fn one_if(is_true: bool) -> u64 {
-    if is_true { 1 } else { 0 }
 }
 
 fn adler32(bytes: &[u8]) -> u32 {
@@ -97,79 +109,72 @@ fn wide(byte: u8) -> u32
 }
 
 // The bytes in hexadecimal, - where there are none.
-fn put_bytes(lines: &mut [u8], waiting: usize, bytes: &[u8]) -> usize {
-    let end = put(lines, waiting, b' ');
+fn put_bytes(line: &mut [u8], waiting: usize, bytes: &[u8]) -> usize {
+    let end = put(line, waiting, b' ');
     if bytes.len() == 0 {
-        return put(lines, end, b'-');
+        return put(line, end, b'-');
     }
-    put_hexadecimal(lines, end, bytes)
+    put_hexadecimal(line, end, bytes)
 }
 
-fn put_hexadecimal(lines: &mut [u8], waiting: usize, bytes: &[u8]) -> usize {
+fn put_hexadecimal(line: &mut [u8], waiting: usize, bytes: &[u8]) -> usize {
     let mut end = waiting;
     let mut i = 0;
     while i < bytes.len() {
-        end = put_byte(lines, end, bytes[i]);
+        end = put_byte(line, end, bytes[i]);
         i += 1;
     }
     end
 }
 
-fn put_byte(lines: &mut [u8], waiting: usize, byte: u8) -> usize {
-    let end = put(lines, waiting, glyph(byte / 16));
-    put(lines, end, glyph(byte % 16))
-}
-
-fn glyph(digit: u8) -> u8 {
-    match digit {
-        0..=9 => b'0' + digit,
-        10..=15 => b'a' - 10 + digit,
-        _ => b'?',
-    }
+fn put_byte(line: &mut [u8], waiting: usize, byte: u8) -> usize {
+    let mut digits = [0u8; 16];
+    let count = io::hex(byte as u64, 2, &mut digits);
+    put_all(line, waiting, &digits[..count])
 }
 
 // The numbers, a blank before each.
-fn put_numbers(lines: &mut [u8], waiting: usize, numbers: &[u64]) -> usize {
+fn put_numbers(line: &mut [u8], waiting: usize, numbers: &[u64]) -> usize {
     let mut end = waiting;
     let mut i = 0;
     while i < numbers.len() {
-        end = put_next(lines, end, numbers[i]);
+        end = put_next(line, end, numbers[i]);
         i += 1;
     }
     end
 }
 
-fn put_next(lines: &mut [u8], waiting: usize, n: u64) -> usize {
-    let end = put(lines, waiting, b' ');
-    put_number(lines, end, n)
+fn put_next(line: &mut [u8], waiting: usize, n: u64) -> usize {
+    let end = put(line, waiting, b' ');
+    put_number(line, end, n)
 }
 
-fn put_number(lines: &mut [u8], waiting: usize, n: u64) -> usize {
+fn put_number(line: &mut [u8], waiting: usize, n: u64) -> usize {
     let mut digits = [0u8; 20];
     let count = io::decimal(n, &mut digits);
-    put_all(lines, waiting, &digits[..count])
+    put_all(line, waiting, &digits[..count])
 }
 
-fn put_all(lines: &mut [u8], waiting: usize, bytes: &[u8]) -> usize {
+fn put_all(line: &mut [u8], waiting: usize, bytes: &[u8]) -> usize {
     let mut end = waiting;
     let mut i = 0;
     while i < bytes.len() {
-        end = put(lines, end, bytes[i]);
+        end = put(line, end, bytes[i]);
         i += 1;
     }
     end
 }
 
 // A full room is written first.
-fn put(lines: &mut [u8], waiting: usize, byte: u8) -> usize {
-    if waiting < lines.len() {
-        lines[waiting] = byte;
+fn put(line: &mut [u8], waiting: usize, byte: u8) -> usize {
+    if waiting < line.len() {
+        line[waiting] = byte;
         return waiting + 1;
     }
-    write(lines, lines.len());
-    if lines.len() == 0 {
+    write(line, line.len());
+    if line.len() == 0 {
         return 0;
     }
-    lines[0] = byte;
+    line[0] = byte;
     1
 }

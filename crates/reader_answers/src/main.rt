@@ -19,6 +19,7 @@
 mod line;
 
 use libc::STDIN_FILENO;
+use libc::STDOUT_FILENO;
 use reader::Form;
 use reader::Holder;
 use reader::Memory;
@@ -45,12 +46,11 @@ const GIVES_PACKET: u8 = 8;
 
 const ASKS_BYTES: u8 = 16;
 
-// What a request leaves to the next one: its step, how many bytes of the two rooms are lent, and how many bytes of lines wait.
+// What a request leaves to the next one: its step, and how many bytes of the two rooms are lent.
 struct Kept {
     step: Step,
     buffer_size: usize,
     packet_size: usize,
-    waiting: usize,
     is_over: bool,
 }
 
@@ -62,19 +62,15 @@ struct Lent {
 fn main() {
     let mut buffer = [0u8; ROOM];
     let mut packet = [0u8; ROOM];
-    let mut lines = [0u8; ROOM];
-    work_all(&mut buffer, &mut packet, &mut lines);
+    work_all(&mut buffer, &mut packet);
 }
 
 // A proved loop has to end, and nothing says that the input does. So it counts its turns down, from a number that no run uses up.
-fn work_all(buffer: &mut [u8], packet: &mut [u8], lines: &mut [u8]) {
+fn work_all(buffer: &mut [u8], packet: &mut [u8]) {
     let mut kept = nothing_kept();
     let mut turns = u64::MAX;
-    while turns > 0 {
-        kept = work_next(kept, buffer, packet, lines);
-        if kept.is_over {
-            return;
-        }
+    while turns > 0 && !kept.is_over {
+        kept = work_next(kept, buffer, packet);
         turns -= 1;
     }
 }
@@ -96,159 +92,84 @@ fn nothing_kept() -> Kept
         step,
         buffer_size: 0,
         packet_size: 0,
-        waiting: 0,
         is_over: false,
     }
 }
 
 // Works the next request, if there is one.
-fn work_next(kept: Kept, buffer: &mut [u8], packet: &mut [u8], lines: &mut [u8]) -> Kept
+fn work_next(kept: Kept, buffer: &mut [u8], packet: &mut [u8]) -> Kept
     requires { ⌜ Within kept (now buffer) (now packet) ⌝ }
     ensures { λ r. ⌜ Within r (now (buffer .exit)) (now (packet .exit)) ⌝ }
 {
     let mut head = [0u8; HEAD];
     let got = io::read_full(STDIN_FILENO, &mut head);
-    if got == 0 {
-        return over(kept, lines, b"");
-    }
     if got < HEAD {
-        return cut_short(kept, lines);
+        return over(kept, got == 0);
     }
-    work_request(&head, kept, buffer, packet, lines)
+    work_request(&head, kept, buffer, packet)
 }
 
 // The buffer comes first.
-fn work_request(
-    head: &[u8; HEAD],
-    kept: Kept,
-    buffer: &mut [u8],
-    packet: &mut [u8],
-    lines: &mut [u8],
-) -> Kept
+fn work_request(head: &[u8; HEAD], kept: Kept, buffer: &mut [u8], packet: &mut [u8]) -> Kept
     requires { ⌜ Within kept (now buffer) (now packet) ⌝ }
     ensures { λ r. ⌜ Within r (now (buffer .exit)) (now (packet .exit)) ⌝ }
 {
-    let lent = lend(
-        head[1] & GIVES_BUFFER != 0,
-        number(head, 16),
-        kept.buffer_size,
-        buffer,
-    );
-    if !lent.is_whole {
-        return cut_short(kept, lines);
+    let first = lend(head, GIVES_BUFFER, 16, kept.buffer_size, buffer);
+    let second = lend(head, GIVES_PACKET, 20, kept.packet_size, packet);
+    if first.is_whole && second.is_whole {
+        let buffer_size = first.size;
+        let packet_size = second.size;
+        return work_lent(
+            head,
+            kept,
+            &packet[0..packet_size],
+            &mut buffer[0..buffer_size],
+        );
     }
-    let next = Kept {
-        step: given(kept.step, head),
-        buffer_size: lent.size,
-        packet_size: kept.packet_size,
-        waiting: kept.waiting,
-        is_over: false,
-    };
-    work_with_buffer(head, next, buffer, packet, lines)
+    over(kept, false)
 }
 
-fn work_with_buffer(
-    head: &[u8; HEAD],
-    kept: Kept,
-    buffer: &mut [u8],
-    packet: &mut [u8],
-    lines: &mut [u8],
-) -> Kept
-    requires { ⌜ Within kept (now buffer) (now packet) ⌝ }
-    ensures { λ r. ⌜ Within r (now (buffer .exit)) (now (packet .exit)) ⌝ }
+fn work_lent(head: &[u8; HEAD], kept: Kept, packet: &[u8], buffer: &mut [u8]) -> Kept
+    ensures { λ r. ⌜ (r .«buffer_size» ≡ length (now (buffer .exit))) × (r .«packet_size» ≡ length (now (packet .entry))) ⌝ }
 {
-    let lent = lend(
-        head[1] & GIVES_PACKET != 0,
-        number(head, 20),
-        kept.packet_size,
-        packet,
-    );
-    if !lent.is_whole {
-        return cut_short(kept, lines);
-    }
-    let step = kept.step;
-    let next = Kept {
-        step,
-        buffer_size: kept.buffer_size,
-        packet_size: lent.size,
-        waiting: kept.waiting,
-        is_over: false,
-    };
-    work_with_both(head, next, buffer, packet, lines)
-}
-
-fn work_with_both(
-    head: &[u8; HEAD],
-    kept: Kept,
-    buffer: &mut [u8],
-    packet: &[u8],
-    lines: &mut [u8],
-) -> Kept
-    requires { ⌜ Within kept (now buffer) (now packet) ⌝ }
-    ensures { λ r. ⌜ Within r (now (buffer .exit)) (now (packet .entry)) ⌝ }
-{
-    let buffer_size = kept.buffer_size;
-    let packet_size = kept.packet_size;
-    let step = called(
-        head[0],
-        kept.step,
-        &packet[0..packet_size],
-        &mut buffer[0..buffer_size],
-    );
-    let waiting = line::put_line(
-        lines,
-        kept.waiting,
-        step,
-        &packet[0..packet_size],
-        &buffer[0..buffer_size],
-        head[1] & ASKS_BYTES != 0,
-    );
+    let step = called(head[0], given(kept.step, head), packet, buffer);
+    line::put_line(step, packet, buffer, head[1] & ASKS_BYTES != 0);
     Kept {
         step,
-        buffer_size,
-        packet_size,
-        waiting,
+        buffer_size: buffer.len(),
+        packet_size: packet.len(),
         is_over: false,
     }
 }
 
-fn cut_short(kept: Kept, lines: &[u8]) -> Kept
+// Nothing more is worked; a request that is not whole is said to be so.
+fn over(mut kept: Kept, is_at_end: bool) -> Kept
     ensures { λ r. ⌜ (r .«buffer_size» ≡ 0) × (r .«packet_size» ≡ 0) ⌝ }
 {
-    over(
-        kept,
-        lines,
-        b"A request is cut short or has too large a size.\n",
-    )
-}
-
-// Writes the lines that wait, and the words.
-fn over(kept: Kept, lines: &[u8], words: &[u8]) -> Kept
-    ensures { λ r. ⌜ (r .«buffer_size» ≡ 0) × (r .«packet_size» ≡ 0) ⌝ }
-{
-    line::write(lines, kept.waiting);
-    line::write(words, words.len());
-    let step = kept.step;
-    Kept {
-        step,
-        buffer_size: 0,
-        packet_size: 0,
-        waiting: 0,
-        is_over: true,
+    if !is_at_end {
+        io::write_all(
+            STDOUT_FILENO,
+            b"A request is cut short or has too large a size.\n",
+        );
     }
+    kept.buffer_size = 0;
+    kept.packet_size = 0;
+    kept.is_over = true;
+    kept
 }
 
 // The bytes lent: if they are given, the ones that come next in the input, else those of the request before.
-fn lend(is_given: bool, size: usize, before: usize, room: &mut [u8]) -> Lent
-    requires { ⌜ before ≤ length (now room) ⌝ }
+fn lend(head: &[u8; HEAD], gives: u8, size_at: usize, before: usize, room: &mut [u8]) -> Lent
+    requires { ⌜ («size_at» ≤ 20) × (before ≤ length (now room)) ⌝ }
     ensures { λ r. ⌜ r .size ≤ length (now (room .exit)) ⌝ }
 {
-    if !is_given {
+    if head[1] & gives == 0 {
         return Lent {
             size: before,
             is_whole: true,
         };
     }
+    let size = number(head, size_at);
     if room.len() < size {
         return Lent {
             size: 0,
@@ -308,8 +229,8 @@ fn reader_in(head: &[u8; HEAD]) -> Reader {
         form,
         memory,
         is_open: head[5] != 0,
-        held: two_bytes(head[6], head[7]),
-        wanted: two_bytes(head[8], head[9]),
+        held: two_bytes(head, 6),
+        wanted: two_bytes(head, 8),
     }
 }
 
@@ -321,12 +242,19 @@ fn place_in(head: &[u8; HEAD]) -> Place {
     };
     Place {
         holder,
-        start: two_bytes(head[12], head[13]),
-        len: two_bytes(head[14], head[15]),
+        start: two_bytes(head, 12),
+        len: two_bytes(head, 14),
     }
 }
 
-fn two_bytes(high: u8, low: u8) -> u16 {
+// The number in the two bytes from there on.
+fn two_bytes(head: &[u8; HEAD], at: usize) -> u16
+    requires { ⌜ at ≤ 22 ⌝ }
+{
+    joined(head[at], head[at + 1])
+}
+
+fn joined(high: u8, low: u8) -> u16 {
     ((high as u16) << 8) | low as u16
 }
 
@@ -334,14 +262,11 @@ fn two_bytes(high: u8, low: u8) -> u16 {
 fn number(head: &[u8; HEAD], at: usize) -> usize
     requires { ⌜ at ≤ 20 ⌝ }
 {
-    (wide(head[at]) << 24)
-        | (wide(head[at + 1]) << 16)
-        | (wide(head[at + 2]) << 8)
-        | wide(head[at + 3])
+    four_bytes(two_bytes(head, at), two_bytes(head, at + 2))
 }
 
-fn wide(byte: u8) -> usize {
-    byte as usize
+fn four_bytes(high: u16, low: u16) -> usize {
+    ((high as usize) << 16) | low as usize
 }
 
 // What the call leaves of the step before it.

@@ -23,28 +23,40 @@ pub fn next(is_in_step: bool, bytes: &[u8]) -> Found
     ensures { λ r. ⌜ r .size ≤ length (now (bytes .entry)) ⌝ }
 {
     if bytes.len() < Packet::SIZE {
-        return taking(Kind::More, 0);
+        return Found {
+            kind: Kind::More,
+            size: 0,
+        };
     }
     let is_packet = bytes[0] == Packet::SYNC_BYTE;
     if is_in_step && is_packet {
-        return taking(Kind::Packet, Packet::SIZE);
+        return Found {
+            kind: Kind::Packet,
+            size: Packet::SIZE,
+        };
     }
     if bytes.len() == Packet::SIZE {
-        return taking(Kind::More, 0);
+        return Found {
+            kind: Kind::More,
+            size: 0,
+        };
     }
     if bytes[Packet::SIZE] == Packet::SYNC_BYTE {
         if is_packet {
-            return taking(Kind::Packet, Packet::SIZE);
+            return Found {
+                kind: Kind::Packet,
+                size: Packet::SIZE,
+            };
         }
         if is_in_step {
-            return taking(Kind::Damaged, Packet::SIZE);
+            return Found {
+                kind: Kind::Damaged,
+                size: Packet::SIZE,
+            };
         }
     }
-    taking(Kind::NoPacket, 1)
-}
-
-fn taking(kind: Kind, size: usize) -> Found
-    ensures { λ r. ⌜ r .size ≤ size ⌝ }
-{
-    Found { kind, size }
+    Found {
+        kind: Kind::NoPacket,
+        size: 1,
+    }
 }

@@ -5,7 +5,6 @@ use crate::names::put_with_stream_type;
 use crate::names::put_with_table;
 use crate::names::table_line;
 use crate::names::type_line;
-use crate::names::when_line;
 use crate::text::put;
 use crate::text::put_named;
 use crate::words::FormLine;
@@ -34,7 +33,9 @@ const NOWHERE: usize = usize::MAX;
 // The form by the line of its name.
 pub fn put_heading(pid: u16, form: u64) -> u64 {
     put_named(
-        b"sections of PID # (0x$$$$), form @\n\n            packet  table         id  version  when     section     bytes\n",
+        b"sections of PID # (0x$$$$), form @\n\
+          \n            \
+          packet  table         id  version  when     section     bytes\n",
         &[pid as u64, pid as u64, form],
         b"COMPACT\nFULL\nONCE\n",
     )
@@ -86,13 +87,15 @@ fn put_full(packet: u64, table_id: u8, section: &[u8]) -> u64 {
 }
 
 fn put_table_header(packet: u64, table_id: u8, header: TableSyntaxHeader, size: u64) -> u64 {
+    // The lines of `current` and `next` among the names.
+    let when = if header.current_next_indicator { 5 } else { 6 };
     let numbers = [
         packet,
         table_id as u64,
         table_line(table_id),
         header.id as u64,
         header.version as u64,
-        when_line(header.current_next_indicator),
+        when,
         header.section_number as u64,
         header.last_section_number as u64,
         size,

@@ -56,17 +56,13 @@ fn main() {
 }
 
 fn read(words: Words) {
-    if words.file == 0 {
-        work(STDIN_FILENO, words, b"standard input");
-        return;
-    }
     let mut room = io::buffer();
     let length = os::arg(words.file, &mut room);
     read_file(words, &room[..length]);
 }
 
 fn read_file(words: Words, path: &[u8]) {
-    if words::line_of(path, b"-\n") == 0 {
+    if words.file == 0 || words::line_of(path, b"-\n") == 0 {
         work(STDIN_FILENO, words, b"standard input");
         return;
     }

@@ -20,10 +20,6 @@ pub fn table_line(table_id: u8) -> u64 {
     if table_id < 4 { table_id as u64 } else { 4 }
 }
 
-pub fn when_line(is_current: bool) -> u64 {
-    if is_current { 5 } else { 6 }
-}
-
 // With the meaning of an answer, in the order of document 01's table.
 pub fn put_with_meaning(form: &[u8], numbers: &[u64]) -> u64 {
     put_named(

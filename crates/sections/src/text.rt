@@ -99,25 +99,21 @@ fn number_at(numbers: &[u64], at: usize) -> u64 {
 
 fn fill_place(page: &mut [u8], end: usize, mark: u8, width: usize, n: u64, names: &[u8]) -> usize {
     match mark {
-        RIGHT => fill_right(page, end, n, width),
-        LEFT => fill_left(page, end, n, width),
         HEXADECIMAL => fill_hexadecimal(page, end, n, width),
-        _ => fill_text(page, end, line_at(names, n)),
+        NAME => fill_text(page, end, line_at(names, n)),
+        _ => fill_decimal(page, end, mark, n, width),
     }
 }
 
-fn fill_right(page: &mut [u8], end: usize, n: u64, width: usize) -> usize {
+fn fill_decimal(page: &mut [u8], end: usize, mark: u8, n: u64, width: usize) -> usize {
     let mut digits = [0u8; 20];
     let count = io::decimal(n, &mut digits);
+    if mark == LEFT {
+        let behind = fill_text(page, end, &digits[..count]);
+        return fill_repeated(page, behind, b' ', count, width);
+    }
     let start = fill_repeated(page, end, b' ', count, width);
     fill_text(page, start, &digits[..count])
-}
-
-fn fill_left(page: &mut [u8], end: usize, n: u64, width: usize) -> usize {
-    let mut digits = [0u8; 20];
-    let count = io::decimal(n, &mut digits);
-    let behind = fill_text(page, end, &digits[..count]);
-    fill_repeated(page, behind, b' ', count, width)
 }
 
 fn fill_hexadecimal(page: &mut [u8], end: usize, n: u64, width: usize) -> usize {
@@ -176,17 +172,20 @@ fn fill_bytes(page: &mut [u8], bytes: &[u8]) -> usize {
 }
 
 fn fill_byte_at(page: &mut [u8], end: usize, at: usize, byte: u8) -> usize {
+    let start = fill_row_start(page, end, at);
+    let blank = fill_byte(page, start, b' ');
+    fill_hexadecimal(page, blank, byte as u64, 2)
+}
+
+// Before the first byte of a line.
+fn fill_row_start(page: &mut [u8], end: usize, at: usize) -> usize {
     if at % ROW != 0 {
-        return fill(page, end, b" $$", &[byte as u64], b"");
+        return end;
     }
     let start = fill_line_end(page, end, at);
-    fill(
-        page,
-        start,
-        b"  bytes   #####  $$",
-        &[at as u64, byte as u64],
-        b"",
-    )
+    let word = fill_text(page, start, b"  bytes   ");
+    let place = fill_decimal(page, word, RIGHT, at as u64, 5);
+    fill_byte(page, place, b' ')
 }
 
 // The end of the line before that place, if there is one.

@@ -14,6 +14,7 @@ pub fn say(what: &[u8], why: &[u8]) {
 pub fn complain(at: usize, fault: u8) {
     let mut room = io::buffer();
     let length = os::arg(at, &mut room);
+    // A line for each fault, by its number.
     let faults = b"\n\
           \n\
           : there is no such option\n \

@@ -20,7 +20,7 @@ impl Fault {
     pub const TOO_LONG: u8 = 6;
 }
 
-// The forms, by the line of their names.
+// The forms, by the line of their names, and how many there are.
 pub struct FormLine;
 
 impl FormLine {
@@ -44,9 +44,19 @@ pub struct Words {
     pub goes_on: bool,
 }
 
+// Until a word is wrong.
 pub fn asked() -> Words {
     let count = os::arg_count();
-    let mut words = Words::none();
+    let mut words = Words {
+        pid: Pid::PAT,
+        form: FormLine::FULL,
+        all: false,
+        hex: false,
+        file: 0,
+        at: 0,
+        fault: Fault::NONE,
+        goes_on: true,
+    };
     let mut at = 1;
     while at < count && words.goes_on {
         words = words.with_next(at);
@@ -56,19 +66,6 @@ pub fn asked() -> Words {
 }
 
 impl Words {
-    fn none() -> Words {
-        Words {
-            pid: Pid::PAT,
-            form: FormLine::FULL,
-            all: false,
-            hex: false,
-            file: 0,
-            at: 0,
-            fault: Fault::NONE,
-            goes_on: true,
-        }
-    }
-
     // A value that is too long has no bytes here.
     fn with_next(self, at: usize) -> Words {
         let mut room = io::buffer();

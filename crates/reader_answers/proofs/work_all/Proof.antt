@@ -1,18 +1,16 @@
--- `work_all` is safe and ends: its turns are counted down; what is lent lies within the rooms, and they keep their lengths.
--- Assumes nothing.
+-- `work_all` is safe and ends: its turns are counted down; what is lent lies within the rooms, and they keep their lengths. Assumes nothing.
 use mathlib.Core.Path.{_≡_}
-use borrow.Author.Needs.{needs}
 use lib.ListN.{length}
 use Rattle.reader_answers.specs.Within.{Within}
+use borrow.Author.Needs.{needs}
 use Rattle.reader_answers.proofs.work_all.Statement.{statement}
 use Rattle.reader_answers.proofs.work_all.Tie as tie
 
 abbrev Inv-loop : tie.InvT-loop
-Inv-loop buffer₀ packet₀ lines₀ kept₀ turns₀ buffer packet lines kept turns =
-    Within kept buffer packet × (length buffer ≡ length buffer₀) × (length packet ≡ length packet₀) × (length lines ≡ length lines₀)
+Inv-loop buffer₀ packet₀ kept₀ turns₀ buffer packet kept turns = Within kept buffer packet × (length buffer ≡ length buffer₀) × (length packet ≡ length packet₀)
 
 abbrev μ-loop : tie.MeasureT-loop
-μ-loop buffer₀ packet₀ lines₀ kept₀ turns₀ buffer packet lines kept turns = turns
+μ-loop buffer₀ packet₀ kept₀ turns₀ buffer packet kept turns = turns
 
 nothing-kept-requires : tie.Need-nothing-kept-requires Inv-loop μ-loop
 nothing-kept-requires c κs = search needs
@@ -23,18 +21,6 @@ loop-holds c = search needs
 work-next-requires : tie.Need-work-next-requires Inv-loop μ-loop
 work-next-requires c κs = search needs
 
-same-length : tie.Need-same-length Inv-loop μ-loop
-same-length c = search needs
-
-same-length-2 : tie.Need-same-length-2 Inv-loop μ-loop
-same-length-2 c = search needs
-
-same-length-3 : tie.Need-same-length-3 Inv-loop μ-loop
-same-length-3 c = search needs
-
-returns : tie.Need-returns Inv-loop μ-loop
-returns c = search needs
-
 sub-turns : tie.Need-sub-turns Inv-loop μ-loop
 sub-turns c = search needs
 
@@ -44,14 +30,20 @@ loop-less c = search needs
 loop-again : tie.Need-loop-again Inv-loop μ-loop
 loop-again c = search needs
 
+same-length : tie.Need-same-length Inv-loop μ-loop
+same-length c = search needs
+
+same-length-2 : tie.Need-same-length-2 Inv-loop μ-loop
+same-length-2 c = search needs
+
+returns : tie.Need-returns Inv-loop μ-loop
+returns c = search needs
+
+same-length-3 : tie.Need-same-length-3 Inv-loop μ-loop
+same-length-3 c = search needs
+
 same-length-4 : tie.Need-same-length-4 Inv-loop μ-loop
 same-length-4 c = search needs
-
-same-length-5 : tie.Need-same-length-5 Inv-loop μ-loop
-same-length-5 c = search needs
-
-same-length-6 : tie.Need-same-length-6 Inv-loop μ-loop
-same-length-6 c = search needs
 
 returns-2 : tie.Need-returns-2 Inv-loop μ-loop
 returns-2 c = search needs
@@ -65,14 +57,12 @@ work-all-spec =
     nothing-kept-requires
     loop-holds
     work-next-requires
-    same-length
-    same-length-2
-    same-length-3
-    returns
     sub-turns
     loop-less
     loop-again
+    same-length
+    same-length-2
+    returns
+    same-length-3
     same-length-4
-    same-length-5
-    same-length-6
     returns-2)

@@ -1,4 +1,4 @@
--- `line::put_all` is safe and ends: each turn leaves fewer bytes, and the lines keep their length. Assumes nothing.
+-- `line::put_all` is safe and ends: each turn leaves fewer bytes, and the line keep their length. Assumes nothing.
 use mathlib.Core.Path.{_≡_}
 use Prim.Native.Nat.{_-_, _≤_}
 use borrow.Author.Needs.{needs}
@@ -7,10 +7,10 @@ use Rattle.reader_answers.proofs.line.put_all.Statement.{statement}
 use Rattle.reader_answers.proofs.line.put_all.Tie as tie
 
 abbrev Inv-loop : tie.InvT-loop
-Inv-loop lines₀ waiting bytes end₀ i₀ lines end i = (i ≤ length bytes) × (length lines ≡ length lines₀)
+Inv-loop line₀ waiting bytes end₀ i₀ line end i = (i ≤ length bytes) × (length line ≡ length line₀)
 
 abbrev μ-loop : tie.MeasureT-loop
-μ-loop lines₀ waiting bytes end₀ i₀ lines end i = length bytes - i
+μ-loop line₀ waiting bytes end₀ i₀ line end i = length bytes - i
 
 loop-holds : tie.Need-loop-holds Inv-loop μ-loop
 loop-holds c = search needs

@@ -13,9 +13,6 @@ abbrev μ-loop : tie.MeasureT-loop
 arg-count-requires : tie.Need-arg-count-requires Inv-loop μ-loop
 arg-count-requires c κs = search needs
 
-none-requires : tie.Need-none-requires Inv-loop μ-loop
-none-requires c κs = search needs
-
 loop-holds : tie.Need-loop-holds Inv-loop μ-loop
 loop-holds c = search needs
 
@@ -44,7 +41,6 @@ asked-spec =
     Inv-loop
     μ-loop
     arg-count-requires
-    none-requires
     loop-holds
     with-next-requires
     add-at
