@@ -8,7 +8,8 @@ use lib.ListN.{length}
 use Rattle.fields.specs.Choice.{if_then_else_}
 use Rattle.fields.specs.BitString.{lowBits, bitString, number, numberAt}
 use Rattle.fields.specs.SyntaxTable.{size, offset, width, valueOf}
-use Rattle.mpegts_crc.specs.Crc.{_plusPolynomialIf_, bitStep, bitEnters, bitsEnter, crcFrom, crcOf}
+use Rattle.crc_steps.specs.BitSteps.{_plusPolynomialIf_, bitStep, bitEnters, bitsEnter}
+use Rattle.mpegts_crc.specs.Crc.{crcFrom, crcOf}
 use Rattle.packet.specs.Header.{ofAPacket}
 use Rattle.packet.specs.Header as packet-header
 use Rattle.packet.specs.Payload.{startingAt, payloadBehind, payloadOf}

@@ -15,8 +15,9 @@ use Rattle.fields.specs.BitString.{numberAt}
 use Rattle.fields.specs.Word.{wordOf}
 use Rattle.fields.proofs.BitStrings.{byte-more, cut, number-at-lt}
 use Rattle.fields.proofs.SyntaxTables.{word-there}
-use Rattle.mpegts_crc.specs.Crc.{allOnes, bitsEnter, crcFrom, crcOf}
-use Rattle.mpegts_crc.proofs.Steps.{enter-lt, enter-join, enter-mod}
+use Rattle.crc_steps.specs.BitSteps.{bitsEnter}
+use Rattle.mpegts_crc.specs.Crc.{allOnes, crcFrom, crcOf}
+use Rattle.crc_steps.proofs.Steps.{enter-lt, enter-join, enter-mod}
 
 pub crc-append : (register : ℕ) (xs ys : List ℕ) → crcFrom register (xs ++ ys) ≡ crcFrom (crcFrom register xs) ys
 unfolding crcFrom

@@ -6,7 +6,8 @@ use native.Mathlib.Omega.{arith}
 use borrow.Author.Needs.{needs}
 use denote.Ref.{now}
 use lib.ListN.{length, drop}
-use Rattle.mpegts_crc.specs.Crc.{bitsEnter, crcFrom, crcOf}
+use Rattle.crc_steps.specs.BitSteps.{bitsEnter}
+use Rattle.mpegts_crc.specs.Crc.{crcFrom, crcOf}
 use Rattle.mpegts_crc.proofs.Bytes.{first-turn, eight-turn, done}
 use Rattle.mpegts_crc.proofs.by_eights.Statement.{statement}
 use Rattle.mpegts_crc.proofs.by_eights.Tie as tie

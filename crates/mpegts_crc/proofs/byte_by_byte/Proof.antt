@@ -3,9 +3,10 @@ use mathlib.Core.Path.{_≡_, refl}
 use Prim.Native.Nat.{_-_, _≤_}
 use borrow.Author.Needs.{needs}
 use lib.ListN.{length, drop}
-use Rattle.mpegts_crc.specs.Crc.{_plusPolynomialIf_, bitStep, bitSteps, crcFrom, crcOf}
+use Rattle.crc_steps.specs.BitSteps.{_plusPolynomialIf_, bitStep, bitSteps}
+use Rattle.mpegts_crc.specs.Crc.{crcFrom, crcOf}
 use Rattle.mpegts_crc.proofs.Bytes.{byte-turn, done}
-use Rattle.mpegts_crc.proofs.Table.{step-table}
+use Rattle.crc_steps.proofs.Table.{step-table}
 use Rattle.mpegts_crc.proofs.byte_by_byte.Statement.{statement}
 use Rattle.mpegts_crc.proofs.byte_by_byte.Tie as tie
 

@@ -3,7 +3,7 @@ use mathlib.Core.Path.{refl, sym, ap, _∙_}
 use Prim.Native.Nat.{_*_, _/_, _%_, _^_, _<_}
 use native.Mathlib.Omega.{arith}
 use lib.Bits.{bitXor}
-use Rattle.mpegts_crc.proofs.Steps.{table-step, index-lt}
+use Rattle.crc_steps.proofs.Steps.{table-step, index-lt}
 use Rattle.mpegts_crc.proofs.byte_enters.Statement.{statement}
 use Rattle.mpegts_crc.proofs.byte_enters.Tie as tie
 

@@ -2,8 +2,9 @@
 use mathlib.Core.Path.{_≡_, refl, ap, _∙_}
 use Prim.Native.Nat.{ℕ, _*_}
 use native.Mathlib.Omega.{arith}
-use Rattle.mpegts_crc.specs.Crc.{_plusPolynomialIf_, allOnes, bitStep, bitEnters, bitsEnter}
-use Rattle.mpegts_crc.proofs.LastArm.{past}
+use Rattle.crc_steps.specs.BitSteps.{_plusPolynomialIf_, bitStep, bitEnters, bitsEnter}
+use Rattle.mpegts_crc.specs.Crc.{allOnes}
+use Rattle.crc_steps.proofs.LastArm.{past}
 use Rattle.mpegts_crc.proofs.start.Statement.{statement}
 use Rattle.mpegts_crc.proofs.start.Tie as tie
 

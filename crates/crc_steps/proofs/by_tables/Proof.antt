@@ -1,11 +1,11 @@
--- `mpegts_crc::by_tables` meets its contract: the register is added to the first four bytes, and what the last four bring to what
+-- `crc_steps::by_tables` meets its contract: the register is added to the first four bytes, and what the last four bring to what
 -- comes of that. Assumes nothing.
 use mathlib.Core.Path.{sym, ap, ap₂, _∙_}
 use lib.Bits.{bitXor, xor-comm}
-use Rattle.mpegts_crc.specs.Crc.{bitSteps, bitsEnter}
-use Rattle.mpegts_crc.proofs.Nibbles.{enter-apart, register-added}
-use Rattle.mpegts_crc.proofs.by_tables.Statement.{statement}
-use Rattle.mpegts_crc.proofs.by_tables.Tie as tie
+use Rattle.crc_steps.specs.BitSteps.{bitSteps, bitsEnter}
+use Rattle.crc_steps.proofs.Nibbles.{enter-apart, register-added}
+use Rattle.crc_steps.proofs.by_tables.Statement.{statement}
+use Rattle.crc_steps.proofs.by_tables.Tie as tie
 
 returns : tie.Need-returns
 returns c =

@@ -1,10 +1,10 @@
--- `mpegts_crc::nibble` meets its contract: by the tables' rule. Assumes nothing.
+-- `crc_steps::nibble` meets its contract: by the tables' rule. Assumes nothing.
 use mathlib.Core.Path.{_∙_}
 use Prim.Native.Nat.{_%_, _<_}
 use native.Mathlib.Omega.{arith}
 use borrow.Author.Needs.{needs}
-use Rattle.mpegts_crc.proofs.nibble.Statement.{statement}
-use Rattle.mpegts_crc.proofs.nibble.Tie as tie
+use Rattle.crc_steps.proofs.nibble.Statement.{statement}
+use Rattle.crc_steps.proofs.nibble.Tie as tie
 
 returns : tie.Need-returns
 returns c =

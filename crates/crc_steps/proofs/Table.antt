@@ -5,7 +5,7 @@ use mathlib.Core.List.{List, [], _∷_}
 use Prim.Native.Nat.{ℕ, zero, suc, _+_, _^_, _<_}
 use native.Mathlib.Nat.{add-zero, zero-add, add-suc, suc-add, le-of-suc-le-suc, not-suc-le-zero}
 use lib.ListN.{getD}
-use Rattle.mpegts_crc.specs.StepTable.{entryOf, StepTable, nibbleEntry, NibbleTables}
+use Rattle.crc_steps.specs.StepTable.{entryOf, StepTable, nibbleEntry, NibbleTables}
 
 -- n entries by a rule, the first for the place i
 abbrev pub listed : {A : Type 0} → (ℕ → A) → ℕ → ℕ → List A

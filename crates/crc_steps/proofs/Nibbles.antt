@@ -5,10 +5,10 @@ use Prim.Native.Nat.{ℕ, zero, suc, _+_, _*_, _/_, _%_, _^_, _<_}
 use native.Mathlib.Nat.{zero-add, suc-add, mul-one, zero-div, div-one, mod-eq-of-lt}
 use native.Mathlib.Omega.{arith}
 use lib.Bits.{bitXor, xor-shr, xor-mod, xor-comm, xor-zero-l, xor-zero-r}
-use Rattle.mpegts_crc.specs.Crc.{_plusPolynomialIf_, bitStep, bitSteps, bitEnters, bitsEnter}
-use Rattle.mpegts_crc.specs.StepTable.{nibbleEntry}
-use Rattle.mpegts_crc.proofs.Xor.{xor-swap, xor-shl}
-use Rattle.mpegts_crc.proofs.Steps.{step-xor, steps-xor, enter-top, enter-join}
+use Rattle.crc_steps.specs.BitSteps.{_plusPolynomialIf_, bitStep, bitSteps, bitEnters, bitsEnter}
+use Rattle.crc_steps.specs.StepTable.{nibbleEntry}
+use Rattle.crc_steps.proofs.Xor.{xor-swap, xor-shl}
+use Rattle.crc_steps.proofs.Steps.{step-xor, steps-xor, enter-top, enter-join}
 
 -- ---- what enters is a sum
 

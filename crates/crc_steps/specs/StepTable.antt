@@ -4,7 +4,7 @@ use mathlib.Core.Path.{_≡_}
 use mathlib.Core.List.{List, []}
 use Prim.Native.Nat.{ℕ, _+_, _-_, _*_, _^_, _<_}
 use lib.ListN.{getD}
-use Rattle.mpegts_crc.specs.Crc.{bitSteps}
+use Rattle.crc_steps.specs.BitSteps.{bitSteps}
 
 -- "eight bit steps on i placed in the top byte", for k bits
 abbrev pub entryOf : ℕ → ℕ → ℕ

@@ -1,12 +1,12 @@
--- `mpegts_crc::picked` meets its contract: each arm reads the place that it stands for. Assumes nothing.
+-- `crc_steps::picked` meets its contract: each arm reads the place that it stands for. Assumes nothing.
 use mathlib.Core.Path.{_≡_, sym, ap}
 use Prim.Native.Nat.{ℕ, _%_}
 use native.Mathlib.Omega.{arith}
 use lib.Dec.{lit<}
 use lib.ListN.{getD}
-use Rattle.mpegts_crc.proofs.LastArm.{past}
-use Rattle.mpegts_crc.proofs.picked.Statement.{statement}
-use Rattle.mpegts_crc.proofs.picked.Tie as tie
+use Rattle.crc_steps.proofs.LastArm.{past}
+use Rattle.crc_steps.proofs.picked.Statement.{statement}
+use Rattle.crc_steps.proofs.picked.Tie as tie
 
 at : (c : tie.Start) (k : ℕ) → c .args .i % 16 ≡ k → getD (c .args .t1) k 0 ≡ getD (c .args .t1) (c .args .i % 16) 0
 at c k e = ap (λ i. getD (c .args .t1) i 0) (sym e)

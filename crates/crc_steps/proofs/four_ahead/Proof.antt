@@ -1,9 +1,9 @@
--- `mpegts_crc::four_ahead` meets its contract: the tables' entries are added, four bits more each time. Assumes nothing.
+-- `crc_steps::four_ahead` meets its contract: the tables' entries are added, four bits more each time. Assumes nothing.
 use lib.Dec.{lit<}
-use Rattle.mpegts_crc.specs.Crc.{bitSteps}
-use Rattle.mpegts_crc.proofs.Nibbles.{first-four, next-four}
-use Rattle.mpegts_crc.proofs.four_ahead.Statement.{statement}
-use Rattle.mpegts_crc.proofs.four_ahead.Tie as tie
+use Rattle.crc_steps.specs.BitSteps.{bitSteps}
+use Rattle.crc_steps.proofs.Nibbles.{first-four, next-four}
+use Rattle.crc_steps.proofs.four_ahead.Statement.{statement}
+use Rattle.crc_steps.proofs.four_ahead.Tie as tie
 
 returns : tie.Need-returns
 unfolding bitSteps

@@ -1,0 +1,2 @@
+pub mod BitSteps
+pub mod StepTable
