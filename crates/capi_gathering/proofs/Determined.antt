@@ -7,7 +7,6 @@ use Rattle.capi_gathering.proofs.jambpepper_fresh.Reads as fresh
 use Rattle.capi_gathering.proofs.jambpepper_is_sound.Reads as is-sound
 use Rattle.capi_gathering.proofs.jambpepper_tail.Reads as tail
 use Rattle.capi_gathering.proofs.jambpepper_head.Reads as head
-use Rattle.capi_gathering.proofs.jambpepper_section.Reads as section
 use Rattle.capi_gathering.proofs.jambpepper_sum32.Reads as sum32
 
 pub jambpepper-fresh-determined : Determines fresh.Post
@@ -23,9 +22,6 @@ jambpepper-tail-determined κs arguments x y x-exit y-exit p q =
 pub jambpepper-head-determined : DeterminesBoth head.Post (λ κs exit. now (exit .1 .1 .0))
 jambpepper-head-determined κs arguments x y x-exit y-exit p q =
     (ap (λ (left : OutcomeForC). left .step) (p ∙ sym q), ap (λ (left : OutcomeForC). left .buffer) (p ∙ sym q))
-
-pub jambpepper-section-determined : Determines section.Post
-jambpepper-section-determined κs arguments x y x-exit y-exit p q = p ∙ sym q
 
 pub jambpepper-sum32-determined : Determines sum32.Post
 jambpepper-sum32-determined κs arguments x y x-exit y-exit p q = p ∙ sym q

@@ -1,4 +1,3 @@
 pub mod States
-pub mod SectionsForC
 pub mod HandedBack
 pub mod Determined

@@ -1,22 +1,21 @@
--- The reader's state, its steps and the place of a delivered section, as C sees them: numbers in the place of forms, holders and flags.
+-- The reader's state and its steps, as C sees them: numbers in the place of forms, holders and flags.
 use Prim.Native.Nat.{ℕ}
 use mathlib.Core.Bool.{Bool, false}
 use mathlib.Core.List.{List}
-use lib.ListN.{length, take, drop}
+use lib.ListN.{length}
 use Rattle.fields.specs.Choice.{if_then_else_, _and_, _is_, _isAtMost_}
 use Rattle.memory.specs.declared.Form.{Form}
 use Rattle.memory.specs.Memory.{noMemory}
 use Rattle.gathering_rules.specs.Checks.{checked}
 use Rattle.delivered.specs.declared.Holder.{Holder}
 use Rattle.delivered.specs.declared.Place.{Place}
-use Rattle.delivered.specs.Delivered.{sectionOf}
 use Rattle.reader.specs.declared.Reader.{Reader}
 use Rattle.reader.specs.declared.Step.{Step}
 use Rattle.reader.specs.State.{sound, fresh}
 use Rattle.reader.specs.Outcome.{Outcome, nowhere}
 use Rattle.capi_numbers.specs.Numbers.{flag}
+use Rattle.capi_numbers.specs.declared.JambpepperPlace.{JambpepperPlace}
 use Rattle.capi_gathering.specs.declared.JambpepperReader.{JambpepperReader}
-use Rattle.capi_gathering.specs.declared.JambpepperPlace.{JambpepperPlace}
 use Rattle.capi_gathering.specs.declared.JambpepperStep.{JambpepperStep}
 
 -- ---- forms and holders
@@ -40,13 +39,6 @@ abbrev pub holderNumber : Holder → ℕ
 holderNumber Holder.Nowhere = 0
 holderNumber Holder.Packet = 1
 holderNumber Holder.Buffer = 2
-
--- a number that names no holder holds nothing
-unfoldable pub holderOf : ℕ → Holder
-holderOf number =
-    if number is 1 then Holder.Packet
-    else if number is 2 then Holder.Buffer
-    else Holder.Nowhere
 
 -- ---- the state
 
@@ -91,9 +83,6 @@ freshForC form =
 abbrev pub placeForC : Place → JambpepperPlace
 placeForC place = record { start = place .start; length = place .len; holder = holderNumber (place .holder) }
 
-abbrev pub placeFromC : JambpepperPlace → Place
-placeFromC place = record { holder = holderOf (place .holder); start = place .start; len = place .length }
-
 -- what a step leaves
 pub record OutcomeForC : Type 0 where
   pub step : JambpepperStep
@@ -121,15 +110,3 @@ unfoldable pub workedForC : (Reader → List ℕ → List ℕ → Outcome) → J
 workedForC stepOf state packet buffer =
     if namesReader state then toldToC (stepOf (readerFromC state) packet buffer)
     else outcomeForC (refusedForC state packet (length buffer)) buffer
-
--- ---- a delivered section
-
--- the place, where a section is read there; else nowhere
-unfoldable pub sectionForC : List ℕ → List ℕ → ℕ → JambpepperPlace → JambpepperPlace
-sectionForC packet buffer answer place =
-    if length (sectionOf packet buffer answer (placeFromC place)) is 0 then placeForC nowhere
-    else place
-
--- what C reads at a place: `length` bytes from `jambpepper_section_bytes` on
-unfoldable pub readAt : JambpepperPlace → List ℕ → List ℕ → List ℕ
-readAt place packet buffer = take (place .length) (drop (place .start) (if place .holder is 2 then buffer else packet))

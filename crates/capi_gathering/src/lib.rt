@@ -1,4 +1,4 @@
-// The C face of gathering: the state, both steps, the reading of a delivered section; and of the CRC, so that the steps and C call one copy of it.
+// The C face of gathering: the state and both steps; and of the CRC, so that the steps and C call one copy of it.
 ghost use Prim.Native.Nat.{_≤_};
 ghost use mathlib.Core.Path.{_≡_};
 ghost use mathlib.Core.Bool.{true};
@@ -6,9 +6,10 @@ ghost use Rattle.mpegts_crc.specs.Crc.{crcOf};
 ghost use Rattle.reader.specs.Tail.{tailOf};
 ghost use Rattle.reader.specs.Head.{headOf};
 ghost use Rattle.capi_numbers.specs.Numbers.{flag};
-ghost use Rattle.capi_gathering.specs.Gathering.{formNumber, formOf, holderNumber, holderOf, namesForm, namesReader};
-ghost use Rattle.capi_gathering.specs.Gathering.{readerForC, readerFromC, placeForC, placeFromC, stepForC, refusedForC, freshForC, soundForC};
-ghost use Rattle.capi_gathering.specs.Gathering.{outcomeForC, workedForC, sectionForC};
+ghost use Rattle.capi_gathering.specs.Gathering.{formNumber, formOf, holderNumber, namesForm, namesReader};
+ghost use Rattle.capi_gathering.specs.Gathering.{readerForC, readerFromC, placeForC, stepForC, refusedForC, freshForC, soundForC};
+ghost use Rattle.capi_gathering.specs.Gathering.{outcomeForC, workedForC};
+use capi_numbers::JambpepperPlace;
 use gathering_rules::checked;
 use mpegts_crc::sum32;
 use reader::Form;
@@ -17,7 +18,6 @@ use reader::Memory;
 use reader::Place;
 use reader::Reader;
 use reader::Step;
-use reader::section;
 
 #[repr(C)]
 pub struct JambpepperReader {
@@ -27,13 +27,6 @@ pub struct JambpepperReader {
     pub is_open: u8,
     pub held: u16,
     pub wanted: u16,
-}
-
-#[repr(C)]
-pub struct JambpepperPlace {
-    pub start: u16,
-    pub length: u16,
-    pub holder: u8,
 }
 
 #[repr(C)]
@@ -75,18 +68,6 @@ fn holder_number(holder: Holder) -> u8
         Holder::Packet => 1,
         Holder::Buffer => 2,
     }
-}
-
-fn holder_of(number: u8) -> Holder
-    ensures { λ r. ⌜ r ≡ holderOf number ⌝ }
-{
-    if number == 1 {
-        return Holder::Packet;
-    }
-    if number == 2 {
-        return Holder::Buffer;
-    }
-    Holder::Nowhere
 }
 
 // Whether each number of the state is one that a state has.
@@ -141,16 +122,6 @@ fn place_for_c(place: Place) -> JambpepperPlace
         start: place.start,
         length: place.len,
         holder: holder_number(holder),
-    }
-}
-
-fn place_from_c(place: JambpepperPlace) -> Place
-    ensures { λ r. ⌜ r ≡ placeFromC place ⌝ }
-{
-    Place {
-        holder: holder_of(place.holder),
-        start: place.start,
-        len: place.length,
     }
 }
 
@@ -237,27 +208,6 @@ pub extern "C" fn jambpepper_head(
         return step_for_c(step);
     }
     refused_for_c(reader, packet, buffer.len())
-}
-
-// Where C finds the section: the place, if a section is read there, else nowhere.
-#[no_mangle]
-pub extern "C" fn jambpepper_section<'a>(
-    packet: &'a [u8],
-    buffer: &'a [u8],
-    answer: u8,
-    place: JambpepperPlace,
-) -> JambpepperPlace
-    ensures { λ r. ⌜ r ≡ sectionForC (now (packet .entry)) (now (buffer .entry)) answer place ⌝ }
-{
-    let found = section(packet, buffer, answer, place_from_c(place));
-    if found.len() == 0 {
-        return JambpepperPlace {
-            start: 0,
-            length: 0,
-            holder: 0,
-        };
-    }
-    place
 }
 
 #[no_mangle]

@@ -11,3 +11,11 @@ pub struct JambpepperPart {
     pub length: usize,
     pub answer: u8,
 }
+
+// Where a delivered section lies: in the packet (1), in the buffer (2) or nowhere (0).
+#[repr(C)]
+pub struct JambpepperPlace {
+    pub start: u16,
+    pub length: u16,
+    pub holder: u8,
+}

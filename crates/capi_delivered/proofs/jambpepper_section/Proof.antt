@@ -1,10 +1,10 @@
--- `capi_gathering::jambpepper_section` meets its contract: the place where a section is read, else nowhere. Assumes nothing.
+-- `capi_delivered::jambpepper_section` meets its contract: the place where a section is read, else nowhere. Assumes nothing.
 use borrow.Author.Tests.{eq-eqb, ne-eqb}
 use Rattle.fields.specs.Choice.{if_then_else_}
-use Rattle.capi_gathering.specs.Gathering.{sectionForC}
+use Rattle.capi_delivered.specs.Delivered.{sectionForC}
 use borrow.Author.Needs.{needs}
-use Rattle.capi_gathering.proofs.jambpepper_section.Statement.{statement}
-use Rattle.capi_gathering.proofs.jambpepper_section.Tie as tie
+use Rattle.capi_delivered.proofs.jambpepper_section.Statement.{statement}
+use Rattle.capi_delivered.proofs.jambpepper_section.Tie as tie
 
 place-from-c-requires : tie.Need-place-from-c-requires
 place-from-c-requires c κs = search needs

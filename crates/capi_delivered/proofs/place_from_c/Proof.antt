@@ -1,8 +1,8 @@
--- `capi_gathering::place_from_c` meets its contract: number by number. Assumes nothing.
+-- `capi_delivered::place_from_c` meets its contract: number by number. Assumes nothing.
 
 use borrow.Author.Needs.{needs}
-use Rattle.capi_gathering.proofs.place_from_c.Statement.{statement}
-use Rattle.capi_gathering.proofs.place_from_c.Tie as tie
+use Rattle.capi_delivered.proofs.place_from_c.Statement.{statement}
+use Rattle.capi_delivered.proofs.place_from_c.Tie as tie
 
 holder-of-requires : tie.Need-holder-of-requires
 holder-of-requires c κs = search needs

@@ -10,9 +10,8 @@ use Rattle.fields.specs.Choice.{if_then_else_, _is_}
 use Rattle.fields.proofs.Choices.{test-holds, test-fails, of-either}
 use Rattle.delivered.specs.declared.Holder.{Holder}
 use Rattle.delivered.specs.Delivered.{partOf, partHeldBy, sectionOf}
-use Rattle.reader.specs.Outcome.{nowhere}
-use Rattle.capi_gathering.specs.Gathering.{holderOf, placeForC, placeFromC, sectionForC, readAt}
-use Rattle.capi_gathering.specs.declared.JambpepperPlace.{JambpepperPlace}
+use Rattle.capi_delivered.specs.Delivered.{holderOf, placeFromC, nowhereForC, sectionForC, readAt}
+use Rattle.capi_numbers.specs.declared.JambpepperPlace.{JambpepperPlace}
 
 -- bytes that are not none
 abbrev NotEmpty : List ℕ → Type 0
@@ -71,5 +70,5 @@ module _ (packet buffer : List ℕ) (answer : ℕ) (place : JambpepperPlace) whe
       (λ empty. nothing-read ∙ sym (none-of-no-length _ empty))
       (λ there. sym (section-there there))
     where
-      nothing-read : readAt (placeForC nowhere) packet buffer ≡ []
+      nothing-read : readAt nowhereForC packet buffer ≡ []
       nothing-read = refl

@@ -1,9 +1,9 @@
--- `capi_gathering::holder_of` meets its contract: each way out gives what the tests before it choose. Assumes nothing.
+-- `capi_delivered::holder_of` meets its contract: each way out gives what the tests before it choose. Assumes nothing.
 use borrow.Author.Tests.{eq-eqb, ne-eqb}
 use Rattle.fields.specs.Choice.{if_then_else_}
-use Rattle.capi_gathering.specs.Gathering.{holderOf}
-use Rattle.capi_gathering.proofs.holder_of.Statement.{statement}
-use Rattle.capi_gathering.proofs.holder_of.Tie as tie
+use Rattle.capi_delivered.specs.Delivered.{holderOf}
+use Rattle.capi_delivered.proofs.holder_of.Statement.{statement}
+use Rattle.capi_delivered.proofs.holder_of.Tie as tie
 
 returns : tie.Need-returns
 unfolding holderOf if_then_else_

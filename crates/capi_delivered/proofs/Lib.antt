@@ -1,0 +1,2 @@
+pub mod SectionsForC
+pub mod Determined
