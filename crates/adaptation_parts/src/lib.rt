@@ -2,11 +2,10 @@
 ghost use mathlib.Core.Path.{_≡_};
 ghost use Prim.Native.Nat.{_+_, _≤_, _<_};
 ghost use lib.ListN.{length, take, drop};
-ghost use Rattle.fields.specs.BitString.{numberAt};
+ghost use Rattle.fields.specs.Choice.{if_then_else_};
 ghost use Rattle.packet.specs.Header.{size};
 ghost use Rattle.adaptation.specs.AdaptationField.{start};
-ghost use Rattle.adaptation_parts.specs.Syntax.{programClockReference, spliceCountdown, sizeInBytes};
-ghost use Rattle.adaptation_parts.specs.Syntax.{beforeOpcr, beforeSpliceCountdown, beforeTransportPrivateData};
+ghost use Rattle.adaptation_parts.specs.Syntax.{programClockReference, spliceCountdown};
 ghost use Rattle.adaptation_parts.specs.Parts.{part, noClock, pcrFrom, clockSays, pcrOf, opcrOf};
 ghost use Rattle.adaptation_parts.specs.Parts.{spliceCountdownFrom, spliceCountdownSays, spliceCountdownOf};
 ghost use Rattle.adaptation_parts.specs.Parts.{privateDataAt, transportPrivateDataSays, transportPrivateDataOf};
@@ -50,14 +49,6 @@ pub enum TransportPrivateData {
     Refused(Refusal),
 }
 
-// A row of eight bits.
-fn byte(bytes: &[u8], at: usize) -> u8
-    requires { ⌜ at < length (now bytes) ⌝ }
-    ensures { λ r. ⌜ r ≡ numberAt 0 8 (drop at (now (bytes .entry))) ⌝ }
-{
-    bytes[at]
-}
-
 // The n bytes of the field.
 fn bytes_of(packet: &[u8], n: u8) -> &[u8]
     requires { ⌜ start + n ≤ length (now packet) ⌝ }
@@ -67,32 +58,11 @@ fn bytes_of(packet: &[u8], n: u8) -> &[u8]
     &packet[AdaptationField::OFFSET..end]
 }
 
-// Where an OPCR begins in the field; and so on, for what lies behind it.
-fn opcr_offset(field: AdaptationField) -> usize
-    ensures { λ r. ⌜ (r ≡ sizeInBytes (beforeOpcr field)) × (r ≤ 7) ⌝ }
+// Where a part begins in the field: behind the flags, and behind the PCR, the OPCR and the splice countdown that stand before it.
+fn behind(pcr: bool, opcr: bool, countdown: bool) -> usize
+    ensures { λ r. ⌜ (r ≡ 1 + (if pcr then 6 else 0) + (if opcr then 6 else 0) + (if countdown then 1 else 0)) × (r ≤ 14) ⌝ }
 {
-    if field.pcr_flag {
-        return PCR_OFFSET + PCR_SIZE;
-    }
-    PCR_OFFSET
-}
-
-fn splice_countdown_offset(field: AdaptationField) -> usize
-    ensures { λ r. ⌜ (r ≡ sizeInBytes (beforeSpliceCountdown field)) × (r ≤ 13) ⌝ }
-{
-    if field.opcr_flag {
-        return opcr_offset(field) + PCR_SIZE;
-    }
-    opcr_offset(field)
-}
-
-fn transport_private_data_offset(field: AdaptationField) -> usize
-    ensures { λ r. ⌜ (r ≡ sizeInBytes (beforeTransportPrivateData field)) × (r ≤ 14) ⌝ }
-{
-    if field.splicing_point_flag {
-        return splice_countdown_offset(field) + 1;
-    }
-    splice_countdown_offset(field)
+    PCR_OFFSET + PCR_SIZE * pcr as usize + PCR_SIZE * opcr as usize + countdown as usize
 }
 
 // The PCR or OPCR at `at` of the field. (An OPCR's rows are a PCR's, under names of its own.)
@@ -124,7 +94,7 @@ fn splice_countdown_at(field: &[u8], flag: bool, at: usize) -> SpliceCountdown
     if field.len() < at + 1 {
         return SpliceCountdown::Refused(Refusal::FieldEndsBefore);
     }
-    SpliceCountdown::Is(byte(field, at))
+    SpliceCountdown::Is(field[at])
 }
 
 // The private data whose length byte is at `at` of the field.
@@ -138,7 +108,7 @@ fn private_data_at(field: &[u8], flag: bool, at: usize) -> TransportPrivateData
     if field.len() < at + 1 {
         return TransportPrivateData::Refused(Refusal::FieldEndsBefore);
     }
-    let n = byte(field, at) as usize;
+    let n = field[at] as usize;
     if field.len() < at + 1 + n {
         return TransportPrivateData::Refused(Refusal::FieldEndsBefore);
     }
@@ -168,7 +138,7 @@ pub fn opcr(packet: &[u8]) -> ClockAnswer
         AdaptationFieldAnswer::Is(field) => clock_at(
             bytes_of(packet, field.adaptation_field_length),
             field.opcr_flag,
-            opcr_offset(field),
+            behind(field.pcr_flag, false, false),
         ),
         AdaptationFieldAnswer::Refused(refusal) => ClockAnswer::Refused(refusal),
     }
@@ -181,7 +151,7 @@ pub fn splice_countdown(packet: &[u8]) -> SpliceCountdown
         AdaptationFieldAnswer::Is(field) => splice_countdown_at(
             bytes_of(packet, field.adaptation_field_length),
             field.splicing_point_flag,
-            splice_countdown_offset(field),
+            behind(field.pcr_flag, field.opcr_flag, false),
         ),
         AdaptationFieldAnswer::Refused(refusal) => SpliceCountdown::Refused(refusal),
     }
@@ -194,7 +164,7 @@ pub fn transport_private_data(packet: &[u8]) -> TransportPrivateData
         AdaptationFieldAnswer::Is(field) => private_data_at(
             bytes_of(packet, field.adaptation_field_length),
             field.transport_private_data_flag,
-            transport_private_data_offset(field),
+            behind(field.pcr_flag, field.opcr_flag, field.splicing_point_flag),
         ),
         AdaptationFieldAnswer::Refused(refusal) => TransportPrivateData::Refused(refusal),
     }

@@ -4,7 +4,7 @@ use mathlib.Core.Path.{sym, _∙_}
 use borrow.Author.Needs.{needs}
 use Rattle.adaptation_parts.specs.Parts.{opcrOf}
 use Rattle.adaptation.proofs.AdaptationFields.{within-its-packet, told-of-a-field, refused-as-its-field}
-use Rattle.adaptation_parts.proofs.Parts.{opcr-as-pcr}
+use Rattle.adaptation_parts.proofs.Parts.{opcr-begins, opcr-as-pcr}
 use Rattle.adaptation_parts.proofs.opcr.Statement.{statement}
 use Rattle.adaptation_parts.proofs.opcr.Tie as tie
 
@@ -17,8 +17,8 @@ enum-known-field c = search needs
 bytes-of-requires : tie.Need-bytes-of-requires
 bytes-of-requires c κs = within-its-packet _ (c .before .field .given .1) (c .before .before .before .of .ensures)
 
-opcr-offset-requires : tie.Need-opcr-offset-requires
-opcr-offset-requires c κs = search needs
+behind-requires : tie.Need-behind-requires
+behind-requires c κs = search needs
 
 clock-at-requires : tie.Need-clock-at-requires
 clock-at-requires c κs = search needs
@@ -30,7 +30,7 @@ returns : tie.Need-returns
 unfolding opcrOf
 returns c =
     let answer = c .before .before .before .before in
-    rw (c .before .before .bytes-of .ensures, c .before .opcr-offset .ensures .0) at (c .clock-at .ensures) ∙ opcr-as-pcr _ _
+    rw (c .before .before .bytes-of .ensures, opcr-begins (answer .field .given .0 .0) (c .before .behind .ensures .0)) at (c .clock-at .ensures) ∙ opcr-as-pcr _ _
     ∙ sym (told-of-a-field _ _ _ (answer .field .given .1) (answer .before .before .of .ensures))
 
 returns-2 : tie.Need-returns-2
@@ -44,7 +44,7 @@ opcr-spec =
     of-requires
     enum-known-field
     bytes-of-requires
-    opcr-offset-requires
+    behind-requires
     clock-at-requires
     enum-known-refusal
     returns

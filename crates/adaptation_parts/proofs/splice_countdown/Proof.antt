@@ -4,6 +4,7 @@ use mathlib.Core.Path.{sym, _∙_}
 use borrow.Author.Needs.{needs}
 use Rattle.adaptation_parts.specs.Parts.{spliceCountdownOf}
 use Rattle.adaptation.proofs.AdaptationFields.{within-its-packet, told-of-a-field, refused-as-its-field}
+use Rattle.adaptation_parts.proofs.Parts.{splice-countdown-begins}
 use Rattle.adaptation_parts.proofs.splice_countdown.Statement.{statement}
 use Rattle.adaptation_parts.proofs.splice_countdown.Tie as tie
 
@@ -16,8 +17,8 @@ enum-known-field c = search needs
 bytes-of-requires : tie.Need-bytes-of-requires
 bytes-of-requires c κs = within-its-packet _ (c .before .field .given .1) (c .before .before .before .of .ensures)
 
-splice-countdown-offset-requires : tie.Need-splice-countdown-offset-requires
-splice-countdown-offset-requires c κs = search needs
+behind-requires : tie.Need-behind-requires
+behind-requires c κs = search needs
 
 splice-countdown-at-requires : tie.Need-splice-countdown-at-requires
 splice-countdown-at-requires c κs = search needs
@@ -29,7 +30,8 @@ returns : tie.Need-returns
 unfolding spliceCountdownOf
 returns c =
     let answer = c .before .before .before .before in
-    rw (c .before .before .bytes-of .ensures, c .before .splice-countdown-offset .ensures .0) at (c .splice-countdown-at .ensures)
+    let begins = splice-countdown-begins (answer .field .given .0 .0) (c .before .behind .ensures .0) in
+    rw (c .before .before .bytes-of .ensures, begins) at (c .splice-countdown-at .ensures)
     ∙ sym (told-of-a-field _ _ _ (answer .field .given .1) (answer .before .before .of .ensures))
 
 returns-2 : tie.Need-returns-2
@@ -43,7 +45,7 @@ splice-countdown-spec =
     of-requires
     enum-known-field
     bytes-of-requires
-    splice-countdown-offset-requires
+    behind-requires
     splice-countdown-at-requires
     enum-known-refusal
     returns

@@ -4,6 +4,7 @@ use mathlib.Core.Path.{sym, _∙_}
 use borrow.Author.Needs.{needs}
 use Rattle.adaptation_parts.specs.Parts.{transportPrivateDataOf}
 use Rattle.adaptation.proofs.AdaptationFields.{within-its-packet, told-of-a-field, refused-as-its-field}
+use Rattle.adaptation_parts.proofs.Parts.{transport-private-data-begins}
 use Rattle.adaptation_parts.proofs.transport_private_data.Statement.{statement}
 use Rattle.adaptation_parts.proofs.transport_private_data.Tie as tie
 
@@ -16,8 +17,8 @@ enum-known-field c = search needs
 bytes-of-requires : tie.Need-bytes-of-requires
 bytes-of-requires c κs = within-its-packet _ (c .before .field .given .1) (c .before .before .before .of .ensures)
 
-transport-private-data-offset-requires : tie.Need-transport-private-data-offset-requires
-transport-private-data-offset-requires c κs = search needs
+behind-requires : tie.Need-behind-requires
+behind-requires c κs = search needs
 
 private-data-at-requires : tie.Need-private-data-at-requires
 private-data-at-requires c κs = search needs
@@ -29,8 +30,8 @@ returns : tie.Need-returns
 unfolding transportPrivateDataOf
 returns c =
     let answer = c .before .before .before .before in
-    rw (c .before .before .bytes-of .ensures, c .before .transport-private-data-offset .ensures .0)
-    at (c .private-data-at .ensures)
+    let begins = transport-private-data-begins (answer .field .given .0 .0) (c .before .behind .ensures .0) in
+    rw (c .before .before .bytes-of .ensures, begins) at (c .private-data-at .ensures)
     ∙ sym (told-of-a-field _ _ _ (answer .field .given .1) (answer .before .before .of .ensures))
 
 returns-2 : tie.Need-returns-2
@@ -44,7 +45,7 @@ transport-private-data-spec =
     of-requires
     enum-known-field
     bytes-of-requires
-    transport-private-data-offset-requires
+    behind-requires
     private-data-at-requires
     enum-known-refusal
     returns
