@@ -1,3 +1,4 @@
 pub mod Seen
 pub mod Fed
+pub mod WrongReaders
 pub mod Read
