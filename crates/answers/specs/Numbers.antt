@@ -1,4 +1,4 @@
--- Document 01's table of answers: the one place of the definitions where their numbers stand. Each name is the row's meaning.
+-- Document 01's table of answers, which docs/RULES.md has: the one place of the definitions where their numbers stand. Each name is the row's meaning.
 use Prim.Native.Nat.{ℕ}
 
 abbrev pub nothingForThisStep : ℕ
