@@ -7,8 +7,9 @@
  * to this:
  *
  * - a pointer and a length lend that many bytes: they exist, and nothing else
- * writes them during the call. A pointer is not null, even where its length is
- * 0;
+ * writes them during the call. A null pointer with length 0 is allowed wherever
+ * bytes are lent: it lends none, and no call reads or writes through it. A
+ * null pointer with a length above 0 is not allowed, and no call tests for it;
  * - the buffer of jambpepper_tail and jambpepper_head may be written during the
  * call, and so overlaps no packet;
  * - a place is read before the bytes that it lies in change: a section in the
@@ -266,9 +267,12 @@ JambpepperPlace jambpepper_section(const uint8_t *packet, size_t packet_length,
                                    JambpepperPlace place);
 
 /* The first byte of a place: one that jambpepper_section gave for these bytes, or a step's own
- * where it delivered. */
+ * where it delivered. NULL where the place has length 0, as nowhere has; it may be lent with that
+ * length. */
 static inline const uint8_t *jambpepper_section_bytes(JambpepperPlace place, const uint8_t *packet,
                                                       const uint8_t *buffer) {
+  if (place.length == 0)
+    return NULL; /* and nothing is added: a null pointer plus 0 is undefined in C */
   return (place.holder == JAMBPEPPER_IN_BUFFER ? buffer : packet) + place.start;
 }
 

@@ -49,6 +49,8 @@ static const uint8_t *lend(const char *text, size_t length) {
 #define BYTES(text) lend(TEXT(text)), sizeof(text) - 1
 #define PACKET packet, (size_t)JAMBPEPPER_PACKET_BYTES
 #define BUFFER buffer, (size_t)JAMBPEPPER_BUFFER_BYTES
+/* nothing, as C lends it: the machine stops a call that reads or writes there */
+#define NOTHING NULL, (size_t)0
 
 /* the packet: these bytes, then 0xff */
 static void packet_from(const char *text, size_t length) {
@@ -373,20 +375,19 @@ static void states(void) {
   SAME(jambpepper_is_sound(reader), 0);
 }
 
+/* the step gave this answer, the state as it was, and no section */
+static void refused(int line, JambpepperStep step, JambpepperReader reader, uint8_t answer) {
+  compare(line, "step.answer", step.answer, answer);
+  same_reader(line, step.reader, reader.form, reader.known, reader.version, reader.is_open,
+              reader.held, reader.wanted);
+  same_place(line, step.place, JAMBPEPPER_NOWHERE, 0, 0);
+}
+
 /* both steps answer 25 to this state, and give it back */
 static void unsound(int line, JambpepperReader reader) {
-  JambpepperStep tail = jambpepper_tail(reader, PACKET, BUFFER);
-  JambpepperStep head = jambpepper_head(reader, PACKET, BUFFER);
-
   compare(line, "is_sound", jambpepper_is_sound(reader), 0);
-  compare(line, "tail.answer", tail.answer, JAMBPEPPER_STATE_NOT_SOUND);
-  same_reader(line, tail.reader, reader.form, reader.known, reader.version, reader.is_open,
-              reader.held, reader.wanted);
-  same_place(line, tail.place, JAMBPEPPER_NOWHERE, 0, 0);
-  compare(line, "head.answer", head.answer, JAMBPEPPER_STATE_NOT_SOUND);
-  same_reader(line, head.reader, reader.form, reader.known, reader.version, reader.is_open,
-              reader.held, reader.wanted);
-  same_place(line, head.place, JAMBPEPPER_NOWHERE, 0, 0);
+  refused(line, jambpepper_tail(reader, PACKET, BUFFER), reader, JAMBPEPPER_STATE_NOT_SOUND);
+  refused(line, jambpepper_head(reader, PACKET, BUFFER), reader, JAMBPEPPER_STATE_NOT_SOUND);
 }
 
 static void unsound_states(void) {
@@ -523,6 +524,163 @@ static void places(void) {
   same_place(__LINE__, jambpepper_section(PACKET, BUFFER, 2, place), 0, 0, 0);
 }
 
+static void a_packet_of_nothing(void) {
+  JambpepperHeader header = jambpepper_header(NOTHING);
+  JambpepperPayload payload = jambpepper_payload(NOTHING);
+
+  SAME(header.answer, JAMBPEPPER_PACKET_SIZE);
+  SAME(header.pid, 0);
+  SAME(header.transport_error_indicator, 0);
+  SAME(header.payload_unit_start_indicator, 0);
+  SAME(header.transport_priority, 0);
+  SAME(header.transport_scrambling_control, 0);
+  SAME(header.adaptation_field_control, 0);
+  SAME(header.continuity_counter, 0);
+  SAME(payload.answer, JAMBPEPPER_PACKET_SIZE);
+  SAME(payload.start, 0);
+}
+
+static void an_adaptation_field_of_nothing(void) {
+  JambpepperAdaptationField field = jambpepper_adaptation_field(NOTHING);
+  JambpepperClock pcr = jambpepper_pcr(NOTHING);
+  JambpepperClock opcr = jambpepper_opcr(NOTHING);
+  JambpepperSpliceCountdown countdown = jambpepper_splice_countdown(NOTHING);
+  JambpepperPart part = jambpepper_transport_private_data(NOTHING);
+
+  SAME(field.answer, JAMBPEPPER_PACKET_SIZE);
+  SAME(field.adaptation_field_length, 0);
+  SAME(field.discontinuity_indicator, 0);
+  SAME(field.random_access_indicator, 0);
+  SAME(field.elementary_stream_priority_indicator, 0);
+  SAME(field.pcr_flag, 0);
+  SAME(field.opcr_flag, 0);
+  SAME(field.splicing_point_flag, 0);
+  SAME(field.transport_private_data_flag, 0);
+  SAME(field.adaptation_field_extension_flag, 0);
+  SAME(pcr.answer, JAMBPEPPER_PACKET_SIZE);
+  SAME(pcr.base, 0);
+  SAME(pcr.extension, 0);
+  SAME(opcr.answer, JAMBPEPPER_PACKET_SIZE);
+  SAME(opcr.base, 0);
+  SAME(opcr.extension, 0);
+  SAME(countdown.answer, JAMBPEPPER_PACKET_SIZE);
+  SAME(countdown.splice_countdown, 0);
+  SAME(part.answer, JAMBPEPPER_PACKET_SIZE);
+  SAME(part.start, 0);
+  SAME(part.length, 0);
+}
+
+static void a_section_of_nothing(void) {
+  JambpepperSectionHeader header = jambpepper_section_header(NOTHING);
+  JambpepperTableHeader table = jambpepper_table_header(NOTHING);
+  JambpepperPart body = jambpepper_body(NOTHING);
+
+  SAME(header.answer, JAMBPEPPER_UNDER_3_BYTES);
+  SAME(header.section_length, 0);
+  SAME(header.table_id, 0);
+  SAME(header.section_syntax_indicator, 0);
+  SAME(header.private_indicator, 0);
+  SAME(table.answer, JAMBPEPPER_UNDER_8_BYTES);
+  SAME(table.id, 0);
+  SAME(table.version, 0);
+  SAME(table.current_next_indicator, 0);
+  SAME(table.section_number, 0);
+  SAME(table.last_section_number, 0);
+  SAME(body.answer, JAMBPEPPER_SECTION_UNDER_12);
+  SAME(body.start, 0);
+  SAME(body.length, 0);
+  SAME(jambpepper_sum32(NOTHING), 0xffffffff);
+}
+
+/* both walks answer this at this position of nothing, and no entry */
+static void no_entry(int line, size_t position, uint8_t answer) {
+  JambpepperProgram program = jambpepper_program_at(NOTHING, position);
+  JambpepperStream stream = jambpepper_stream_at(NOTHING, position);
+
+  compare(line, "program.answer", program.answer, answer);
+  compare(line, "program.next", program.next, 0);
+  compare(line, "program.program_number", program.program_number, 0);
+  compare(line, "program.pid", program.pid, 0);
+  compare(line, "stream.answer", stream.answer, answer);
+  compare(line, "stream.info_start", stream.info_start, 0);
+  compare(line, "stream.info_length", stream.info_length, 0);
+  compare(line, "stream.next", stream.next, 0);
+  compare(line, "stream.elementary_pid", stream.elementary_pid, 0);
+  compare(line, "stream.stream_type", stream.stream_type, 0);
+}
+
+static void a_body_of_nothing(void) {
+  JambpepperPmt pmt = jambpepper_pmt_start(NOTHING);
+
+  SAME(pmt.answer, JAMBPEPPER_PMT_TOO_SHORT);
+  SAME(pmt.needed, 4);
+  SAME(pmt.actual, 0);
+  SAME(pmt.pcr_pid, 0);
+  SAME(pmt.descriptors_start, 0);
+  SAME(pmt.descriptors_length, 0);
+  SAME(pmt.streams, 0);
+  no_entry(__LINE__, 0, JAMBPEPPER_WALK_AT_END);
+  no_entry(__LINE__, 1, JAMBPEPPER_POSITION_ABOVE_LENGTH);
+  no_entry(__LINE__, SIZE_MAX, JAMBPEPPER_POSITION_ABOVE_LENGTH);
+}
+
+/* both steps, lent no packet, no buffer and neither, with this state: the buffer stays as it is */
+static void lent_nothing(int line, JambpepperReader reader) {
+  size_t at;
+
+  memset(buffer, 0xaa, JAMBPEPPER_BUFFER_BYTES);
+  refused(line, jambpepper_tail(reader, NOTHING, BUFFER), reader, JAMBPEPPER_PACKET_SIZE);
+  refused(line, jambpepper_head(reader, NOTHING, BUFFER), reader, JAMBPEPPER_PACKET_SIZE);
+  refused(line, jambpepper_tail(reader, PACKET, NOTHING), reader, JAMBPEPPER_BUFFER_SIZE);
+  refused(line, jambpepper_head(reader, PACKET, NOTHING), reader, JAMBPEPPER_BUFFER_SIZE);
+  refused(line, jambpepper_tail(reader, NOTHING, NOTHING), reader, JAMBPEPPER_PACKET_SIZE);
+  refused(line, jambpepper_head(reader, NOTHING, NOTHING), reader, JAMBPEPPER_PACKET_SIZE);
+  for (at = 0; at < JAMBPEPPER_BUFFER_BYTES; at++)
+    compare(line, "buffer[at]", buffer[at], 0xaa);
+}
+
+static void steps_over_nothing(void) {
+  JambpepperReader reader;
+  uint8_t form;
+
+  /* five bytes for the tail step, then a section that starts: with a buffer both are kept */
+  packet_from(TEXT("\x47\x40\x00\x10\x05\x01\x02\x03\x04\x05\x02\xf3\xfd"));
+  for (form = JAMBPEPPER_COMPACT; form <= JAMBPEPPER_ONCE; form++)
+    lent_nothing(__LINE__, jambpepper_fresh(form));
+  lent_nothing(__LINE__, jambpepper_fresh(3));
+  reader = jambpepper_fresh(JAMBPEPPER_ONCE);
+  reader.known = 1;
+  reader.version = 30;
+  reader.is_open = 1;
+  reader.held = 8;
+  reader.wanted = 1024;
+  lent_nothing(__LINE__, reader);
+  SAME(jambpepper_tail(reader, PACKET, BUFFER).answer, JAMBPEPPER_BYTES_KEPT);
+  SAME(jambpepper_head(reader, PACKET, BUFFER).answer, JAMBPEPPER_BYTES_KEPT);
+}
+
+static void places_in_nothing(void) {
+  JambpepperPlace place = {172, 16, JAMBPEPPER_IN_PACKET};
+
+  same_place(__LINE__, jambpepper_section(NOTHING, BUFFER, 2, place), 0, 0, 0);
+  same_place(__LINE__, jambpepper_section(PACKET, NOTHING, 2, place), 1, 172, 16);
+  same_place(__LINE__, jambpepper_section(NOTHING, NOTHING, 2, place), 0, 0, 0);
+  SAME(jambpepper_section_bytes(place, packet, NULL) == packet + 172, 1);
+  place.holder = JAMBPEPPER_IN_BUFFER;
+  same_place(__LINE__, jambpepper_section(NOTHING, BUFFER, 2, place), 2, 172, 16);
+  same_place(__LINE__, jambpepper_section(PACKET, NOTHING, 2, place), 0, 0, 0);
+  same_place(__LINE__, jambpepper_section(NOTHING, NOTHING, 2, place), 0, 0, 0);
+  SAME(jambpepper_section_bytes(place, NULL, buffer) == buffer + 172, 1);
+
+  place.start = 0;
+  place.length = 0;
+  for (place.holder = JAMBPEPPER_NOWHERE; place.holder <= JAMBPEPPER_IN_BUFFER; place.holder++) {
+    same_place(__LINE__, jambpepper_section(NOTHING, NOTHING, 2, place), 0, 0, 0);
+    SAME(jambpepper_section_bytes(place, NULL, NULL) == NULL, 1);
+    SAME(jambpepper_section_bytes(place, packet, buffer) == NULL, 1);
+  }
+}
+
 int main(void) {
   packet = block(JAMBPEPPER_PACKET_BYTES);
   buffer = block(JAMBPEPPER_BUFFER_BYTES);
@@ -542,6 +700,12 @@ int main(void) {
   a_section_in_its_packet();
   a_section_over_two_packets();
   places();
+  a_packet_of_nothing();
+  an_adaptation_field_of_nothing();
+  a_section_of_nothing();
+  a_body_of_nothing();
+  steps_over_nothing();
+  places_in_nothing();
   free(buffer);
   free(packet);
   free(lent);

@@ -1,8 +1,8 @@
 //! The library's calls with slices for pointers and lengths: all of the crate's unsafe code.
 //!
-//! What a call needs is that each pointer lends as many bytes as its length says, is not null even where the length is 0, and
-//! that nothing else writes the bytes meanwhile. A slice is that: `&[u8]` lends bytes that nobody writes, `&mut [u8]` bytes
-//! that only the call writes and that overlap no other slice.
+//! What a call needs is that each pointer lends as many bytes as its length says, and that nothing else writes the bytes
+//! meanwhile; with length 0 the pointer is not used. A slice is that: `&[u8]` lends bytes that nobody writes, `&mut [u8]`
+//! bytes that only the call writes and that overlap no other slice.
 use crate::ffi::*;
 
 pub fn header(packet: &[u8]) -> JambpepperHeader {
