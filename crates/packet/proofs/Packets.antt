@@ -5,12 +5,12 @@ use mathlib.Core.Path.{_≡_, refl, sym, ap, _∙_}
 use mathlib.Core.Bool.{true, not}
 use mathlib.Core.List.{List}
 use native.Mathlib.Omega.{arith}
-use borrow.Author.Tests.{eqb-true, eq-eqb}
+use borrow.Author.Tests.{eqb-true, eq-eqb, not-false}
 use lib.ListN.{length}
 use Rattle.fields.specs.Choice.{_is_, _isNot_}
 use Rattle.fields.specs.SyntaxTable.{field, size, behind, width, valueOf}
 use Rattle.fields.specs.Word.{wordOf}
-use Rattle.fields.proofs.Choices.{test-holds, test-fails, second-chosen, either-way, not-fails}
+use Rattle.fields.proofs.Choices.{test-holds, test-fails, second-chosen, either-way}
 use Rattle.fields.proofs.SyntaxTables.{field-of-word}
 use Rattle.answers.specs.Says.{Says, given, refused}
 use Rattle.answers.specs.Refusals.{numberOf}
@@ -38,8 +38,8 @@ header-given packet header e =
     let size = second-chosen _ _ _ _ (sym e) (λ f. given-is-not-refused Refusal.PacketSize (sym f)) in
     let sync = second-chosen _ _ _ _ (size .1) (λ f. given-is-not-refused Refusal.NoSyncByte (sym f)) in
     record {
-      sized = eqb-true _ _ (not-fails _ (size .0));
-      synced = not-fails _ (sync .0);
+      sized = eqb-true _ _ (not-false _ (size .0));
+      synced = not-false _ (sync .0);
       fields = sym (same-values (sync .1));
     }
 
