@@ -6,9 +6,9 @@ use mathlib.Core.List.{List, [], _∷_, _++_, append-nil}
 use native.Mathlib.Omega.{arith}
 use lib.ListN.{length, take, drop, length-take, length-drop, length-append}
 use lib.Seq.{take-all, take-append-add, drop-drop}
-use borrow.Author.Tests.{eqb-true, eqb-false, ltb-true, ltb-false, leb-true, le-ltb}
+use borrow.Author.Tests.{eqb-true, eqb-false, ltb-true, ltb-false, leb-true, le-ltb, not-true, not-false}
 use Rattle.fields.specs.Choice.{if_then_else_}
-use Rattle.fields.proofs.Choices.{test-holds, test-fails, of-both, of-either, both-hold, first-chosen, second-chosen}
+use Rattle.fields.proofs.Choices.{test-holds, test-fails, of-both, of-either, both-hold, second-chosen}
 use Rattle.fields.proofs.LaidBytes.{laid-length, laid-up-to-end, laid-at-front}
 use Rattle.answers.specs.Says.{Says}
 use Rattle.packet.specs.Header.{ofAPacket}
@@ -100,7 +100,7 @@ crc-verdict-zero : (section : List ℕ) → crcVerdict section ≡ 2 → crcOf s
 unfolding crcVerdict
 crc-verdict-zero section e =
     let long = second-chosen _ 16 _ 2 e (λ f. omega arith) in
-    eqb-true _ _ (first-chosen _ 2 17 2 (long .1) (λ f. omega arith) .0)
+    eqb-true _ _ (not-false _ (second-chosen _ 17 2 2 (long .1) (λ f. omega arith) .0))
 
 crc-zero : (form : Form) (section : List ℕ) → verdict form section ≡ 2 → Tests form → crcOf section ≡ 0
 unfolding verdict
@@ -158,18 +158,16 @@ record NotDelivered (says : Says ℕ) : Type 0 where
 start-not-delivered : (start : ℕ) → NotDelivered (startingAt start)
 unfolding startingAt
 start-not-delivered start =
-    of-both NotDelivered _ _ _ (record { not2 = eqb-false 0 2 refl })
-    (of-both NotDelivered _ _ _ (record { not2 = eqb-false 7 2 refl }) (record { not2 = eqb-false 8 2 refl }))
+    of-both NotDelivered _ _ _ (record { not2 = eqb-false 7 2 refl })
+    (of-both NotDelivered _ _ _ (record { not2 = eqb-false 8 2 refl }) (record { not2 = eqb-false 0 2 refl }))
 
 payload-not-delivered : (packet : List ℕ) → NotDelivered (payloadOf packet)
 unfolding payloadOf ofAPacket payloadBehind
 payload-not-delivered packet =
-    of-both NotDelivered _ _ _
-    (of-both NotDelivered _ _ _
+    of-both NotDelivered _ _ _ (record { not2 = eqb-false 3 2 refl })
+    (of-both NotDelivered _ _ _ (record { not2 = eqb-false 4 2 refl })
     (of-both NotDelivered _ _ _ (start-not-delivered 4)
-    (of-both NotDelivered _ _ _ (start-not-delivered _) (record { not2 = eqb-false 6 2 refl })))
-    (record { not2 = eqb-false 4 2 refl }))
-    (record { not2 = eqb-false 3 2 refl })
+    (of-both NotDelivered _ _ _ (start-not-delivered _) (record { not2 = eqb-false 6 2 refl }))))
 
 -- and a payload is found only in 188 bytes
 payload-sized : (packet : List ℕ) → hasPayload packet ≡ true → length packet ≡ 188
@@ -198,7 +196,9 @@ module _ (packet fed : List ℕ) (reader : Reader) (buffer : List ℕ) (isSound 
   unfolding continued
   continued-leaves bytes =
       of-either (Leaves packet (fed ++ bytes) (fed ++ bytes)) _ _ _
-      (λ isOpen.
+      (λ isIdle. leaves-idle packet (fed ++ bytes) (fed ++ bytes) 15 (reader .form) (reader .memory) buffer (λ e. omega arith))
+      (λ notIdle.
+      let isOpen : reader .«is_open» ≡ true = not-false _ notIdle in
       let o = open-sound reader isSound isOpen in
       let have = held isOpen in
       let three : 3 ≤ length fed = omega (arith, o .least, three-held (reader .form), have .count) in
@@ -229,14 +229,14 @@ module _ (packet fed : List ℕ) (reader : Reader) (buffer : List ℕ) (isSound 
       rw (laid-length buffer (reader .held) (copied reader bytes) room) (omega arith) in
       leaves-whole packet (fed ++ bytes) (fed ++ bytes) (reader .form) (reader .memory) (inBuffer (reader .wanted)) _ _ first
       (read-in-buffer packet (filled reader bytes buffer) (reader .wanted) long)))
-      (λ isIdle. leaves-idle packet (fed ++ bytes) (fed ++ bytes) 15 (reader .form) (reader .memory) buffer (λ e. omega arith))
 
   tail-from-leaves : hasPayload packet ≡ true
       → Leaves packet (fed ++ continuing packet) (fed ++ continuing packet) (tailFrom reader packet (payload packet) buffer)
   unfolding tailFrom
   tail-from-leaves placed =
-      of-either P _ _ _
-      (λ unit.
+      of-either P _ _ _ (λ none. continues-with (payload packet) (continuing-whole packet placed (not-true _ none)))
+      (λ some.
+      let unit : unitStart packet ≡ true = not-false _ some in
       let what : continuing packet
       ≡ take (pointer (payload packet)) (rest (payload packet)) = continuing-up-to packet placed unit in
       of-either P _ _ _
@@ -249,7 +249,6 @@ module _ (packet fed : List ℕ) (reader : Reader) (buffer : List ℕ) (isSound 
       (λ some. of-either P _ _ _
       (λ beyond. leaves-idle packet _ _ 9 (reader .form) _ buffer (eqb-false 9 2 refl))
       (λ within. continues-with (take (pointer (payload packet)) (rest (payload packet))) what)))
-      (λ none. continues-with (payload packet) (continuing-whole packet placed none))
     where
       P : Outcome → Type 0
       P = Leaves packet (fed ++ continuing packet) (fed ++ continuing packet)
@@ -300,10 +299,9 @@ module _ (packet fed : List ℕ) (reader : Reader) (buffer : List ℕ) (isSound 
   unfolding startRefusal
   start-is-not-2 form memory bytes =
       of-both Not2 _ _ _ (eqb-false 10 2 refl)
-      (of-both Not2 _ _ _
+      (of-both Not2 _ _ _ (eqb-false 11 2 refl)
       (of-both Not2 _ _ _ (eqb-false 12 2 refl)
-      (of-both Not2 _ _ _ (eqb-false 13 2 refl) (of-both Not2 _ _ _ (eqb-false 14 2 refl) (eqb-false 0 2 refl))))
-      (eqb-false 11 2 refl))
+      (of-both Not2 _ _ _ (eqb-false 13 2 refl) (of-both Not2 _ _ _ (eqb-false 14 2 refl) (eqb-false 0 2 refl)))))
     where
       Not2 : ℕ → Type 0
       Not2 n = n ≡ 2 → ⊥
@@ -333,21 +331,21 @@ module _ (packet fed : List ℕ) (reader : Reader) (buffer : List ℕ) (isSound 
   head-from-leaves placed =
       let start = payloadOf packet .values in
       of-either (Leaves packet (fromTarget packet) (fedNow packet fed)) _ _ _
-      (λ unit. of-either (Leaves packet (fromTarget packet) (fedNow packet fed)) _ _ _
+      (λ none.
+      leaves-answered packet (fromTarget packet) (fedNow packet fed) 0 reader buffer (eqb-false 0 2 refl)
+      (subst (λ (l : List ℕ). reader .«is_open» ≡ true → Holds l reader buffer)
+      (sym (test-fails _ _ _ (test-holds _ _ _ placed ∙ not-true _ none))) held))
+      (λ some. of-either (Leaves packet (fromTarget packet) (fedNow packet fed)) _ _ _
       (λ beyond. leaves-idle packet _ _ 9 (reader .form) _ buffer (eqb-false 9 2 refl))
       (λ within.
       subst (λ (l : List ℕ). Leaves packet (fromTarget packet) l
       (started (reader .form) (reader .memory) (drop (start + 1 + pointer (drop start packet)) packet)
-      (start + 1 + pointer (drop start packet)) buffer)) (unfolded-start placed unit)
+      (start + 1 + pointer (drop start packet)) buffer)) (unfolded-start placed (not-false _ some))
       (subst (λ (l : List ℕ). Leaves packet l l
       (started (reader .form) (reader .memory) (drop (start + 1 + pointer (drop start packet)) packet)
       (start + 1 + pointer (drop start packet)) buffer)) (target start)
       (started-leaves (reader .form) (reader .memory) (start + 1 + pointer (drop start packet))
       (payload-sized packet placed)))))
-      (λ none.
-      leaves-answered packet (fromTarget packet) (fedNow packet fed) 0 reader buffer (eqb-false 0 2 refl)
-      (subst (λ (l : List ℕ). reader .«is_open» ≡ true → Holds l reader buffer)
-      (sym (test-fails _ _ _ (test-holds _ _ _ placed ∙ none))) held))
 
   pub head-leaves : Leaves packet (fromTarget packet) (fedNow packet fed) (headOf reader packet buffer)
   unfolding headOf
