@@ -58,8 +58,8 @@ abbrev pub adaptationFieldSays : AdaptationFieldAnswer → Says AdaptationField
 adaptationFieldSays (AdaptationFieldAnswer.Is flags) = given flags
 adaptationFieldSays (AdaptationFieldAnswer.Refused refusal) = refused (numberOf refusal) noField
 
--- "no adaptation field", then "adaptation field length wrong": "with 10 its length byte must be 183; with 11 it is 0 (absent), 1 to 182, or
--- refused". What is said of a field once there is one, by the adaptation field control and the length byte
+-- "Control 00 has neither part, 01 payload only"; "with 10 its length byte must be 183; with 11 it is 0 (absent), 1 to 182, or refused": what is
+-- said of a field once there is one, by the adaptation field control and the length byte
 unfoldable pub wherePresent : {Values : Type 0} → ℕ → ℕ → Values → Says Values → Says Values
 wherePresent control n none asked =
     if control isNot 0b10 and control isNot 0b11 then refused noAdaptationField none
