@@ -1,12 +1,12 @@
 -- What the answer of an adaptation field says of the calls on it. Assumes nothing.
 use Prim.Native.Nat.{ℕ, _+_, _≤_}
 use mathlib.Core.Path.{_≡_, refl, sym, ap, _∙_}
-use mathlib.Core.Bool.{Bool, true, false}
+use mathlib.Core.Bool.{Bool, true, false, not, true≢false}
 use mathlib.Core.List.{List}
 use native.Mathlib.Omega.{arith}
-use borrow.Author.Tests.{eqb-true, leb-true}
+use borrow.Author.Tests.{eqb-true, ltb-false, not-false}
 use lib.ListN.{length, take, drop}
-use Rattle.fields.specs.Choice.{if_then_else_, _is_, _isAtMost_}
+use Rattle.fields.specs.Choice.{if_then_else_, _and_, _is_, _isNot_, _isAbove_}
 use Rattle.answers.specs.Says.{Says, given, refused}
 use Rattle.answers.specs.Refusals.{numberOf}
 use Rattle.answers.specs.declared.Refusal.{Refusal}
@@ -25,6 +25,14 @@ unfolding if_then_else_
 each P true f g = f refl
 each P false f g = g refl
 
+-- a field that nothing refuses, `alone` in its packet or `before` a payload, has at most 183 bytes
+no-longer : (alone before : Bool) (n : ℕ) → (not alone and not before) ≡ false → (alone and n isNot 183) ≡ false
+    → (before and n isAbove 182) ≡ false → n ≤ 183
+unfolding if_then_else_
+no-longer true before n there e l = let whole = eqb-true n 183 (not-false _ e) in omega arith
+no-longer false true n there e l = let most = ltb-false 182 n l in omega arith
+no-longer false false n there e l = absurd (true≢false there)
+
 module _ {Values : Type 0} (packet : List ℕ) (none : Values) (asked : AdaptationField → List ℕ → Says Values) where
   -- a call on a field goes as the field's own answer: both are given, and the field lies within its packet, or both are refused alike
   alike : (P : Says AdaptationField → Says Values → Type 0)
@@ -33,21 +41,14 @@ module _ {Values : Type 0} (packet : List ℕ) (none : Values) (asked : Adaptati
       → P (adaptationFieldOf packet) (ofAField packet none asked)
   unfolding adaptationFieldOf ofAField ofAPacket wherePresent
   alike P both neither =
-      each P (length packet is size)
-      (λ sized. each P _
-      (λ _. each P (controlOf packet is 0b10)
-      (λ _. each P (lengthByte packet is 183)
-      (λ l. both (omega (arith, eqb-true)))
-      (λ _. neither Refusal.AdaptationFieldLength))
-      (λ _. each P (controlOf packet is 0b11)
-      (λ _. each P (lengthByte packet is 0)
-      (λ _. neither Refusal.NoAdaptationField)
-      (λ _. each P (lengthByte packet isAtMost 182)
-      (λ l. both (omega (arith, eqb-true, leb-true)))
-      (λ _. neither Refusal.AdaptationFieldLength)))
-      (λ _. neither Refusal.NoAdaptationField)))
-      (λ _. neither Refusal.NoSyncByte))
-      (λ _. neither Refusal.PacketSize)
+      each P (length packet isNot size) (λ _. neither Refusal.PacketSize)
+      (λ sized. each P _ (λ _. neither Refusal.NoSyncByte)
+      (λ _. each P (controlOf packet isNot 0b10 and controlOf packet isNot 0b11) (λ _. neither Refusal.NoAdaptationField)
+      (λ there. each P (controlOf packet is 0b11 and lengthByte packet is 0) (λ _. neither Refusal.NoAdaptationField)
+      (λ _. each P (controlOf packet is 0b10 and lengthByte packet isNot 183) (λ _. neither Refusal.AdaptationFieldLength)
+      (λ alone. each P (controlOf packet is 0b11 and lengthByte packet isAbove 182) (λ _. neither Refusal.AdaptationFieldLength)
+      (λ before. let most = no-longer _ _ (lengthByte packet) there alone before in
+      let whole = eqb-true (length packet) size (not-false _ sized) in both (omega arith)))))))
 
   -- where the field's answer is a field, every call on it is told of its flags and its bytes
   pub told-of-a-field : {answer : AdaptationFieldAnswer} {flags : AdaptationField} → answer ≡ AdaptationFieldAnswer.Is flags

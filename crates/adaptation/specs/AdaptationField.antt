@@ -3,7 +3,7 @@ use Prim.Native.Nat.{ℕ}
 use mathlib.Core.Bool.{false}
 use mathlib.Core.List.{List}
 use lib.ListN.{take, drop}
-use Rattle.fields.specs.Choice.{if_then_else_, _is_, _isAtMost_}
+use Rattle.fields.specs.Choice.{if_then_else_, _and_, _is_, _isNot_, _isAbove_}
 use Rattle.fields.specs.SyntaxTable.{field}
 use Rattle.answers.specs.Numbers.{noAdaptationField, adaptationFieldLength}
 use Rattle.answers.specs.Says.{Says, given, refused}
@@ -58,18 +58,15 @@ abbrev pub adaptationFieldSays : AdaptationFieldAnswer → Says AdaptationField
 adaptationFieldSays (AdaptationFieldAnswer.Is flags) = given flags
 adaptationFieldSays (AdaptationFieldAnswer.Refused refusal) = refused (numberOf refusal) noField
 
--- "with 10 its length byte must be 183; with 11 it is 0 (absent), 1 to 182, or refused": what is said of a field once there is
--- one, by the adaptation field control and the length byte
+-- "Control 00 has neither part, 01 payload only"; "with 10 its length byte must be 183; with 11 it is 0 (absent), 1 to 182, or refused": what is
+-- said of a field once there is one, by the adaptation field control and the length byte
 unfoldable pub wherePresent : {Values : Type 0} → ℕ → ℕ → Values → Says Values → Says Values
 wherePresent control n none asked =
-    if control is 0b10 then
-    if n is 183 then asked
-    else refused adaptationFieldLength none
-    else if control is 0b11 then
-    if n is 0 then refused noAdaptationField none
-    else if n isAtMost 182 then asked
-    else refused adaptationFieldLength none
-    else refused noAdaptationField none
+    if control isNot 0b10 and control isNot 0b11 then refused noAdaptationField none
+    else if control is 0b11 and n is 0 then refused noAdaptationField none
+    else if control is 0b10 and n isNot 183 then refused adaptationFieldLength none
+    else if control is 0b11 and n isAbove 182 then refused adaptationFieldLength none
+    else asked
 
 -- field calls test 3 and 4 first, "then 18, 19": what is asked of the field's flags and its bytes
 unfoldable pub ofAField : {Values : Type 0} → List ℕ → Values → (AdaptationField → List ℕ → Says Values) → Says Values

@@ -1,8 +1,8 @@
 -- The answers of a part, and where the next one begins. Assumes nothing.
 use Prim.Native.Nat.{ℕ, zero, suc, _+_, _*_, _≤_, _<_}
 use Prim.Native.String.{String}
-use mathlib.Core.Path.{_≡_, refl, sym, _∙_}
-use mathlib.Core.Bool.{Bool, true, false}
+use mathlib.Core.Path.{_≡_, refl, sym, ap, _∙_}
+use mathlib.Core.Bool.{Bool, true, false, not}
 use mathlib.Core.List.{List, [], _++_}
 use native.Mathlib.Nat.{add-zero}
 use native.Mathlib.Omega.{arith}
@@ -26,16 +26,16 @@ use Rattle.adaptation_parts.specs.Parts.{part, noClock, pcrFrom, opcrFro
 module _ {Values : Type 0} (flag : Bool) (rows : Table) (bytes : List ℕ) (none : Values) (read : List ℕ → Values) where
   pub flag-is-clear : flag ≡ false → part flag rows bytes none read ≡ refused flagClear none
   unfolding part
-  flag-is-clear f = test-fails flag _ _ f
+  flag-is-clear f = test-holds _ _ _ (ap not f)
 
   pub field-ends-before : flag ≡ true → length bytes * 8 < size rows
       → part flag rows bytes none read ≡ refused fieldEndsBefore none
   unfolding part
-  field-ends-before f l = test-holds flag _ _ f ∙ test-holds _ _ _ (lt-ltb _ _ l)
+  field-ends-before f l = test-fails _ _ _ (ap not f) ∙ test-holds _ _ _ (lt-ltb _ _ l)
 
   pub part-is-there : flag ≡ true → size rows ≤ length bytes * 8 → part flag rows bytes none read ≡ given (read bytes)
   unfolding part
-  part-is-there f l = test-holds flag _ _ f ∙ test-fails _ _ _ (le-ltb _ _ l)
+  part-is-there f l = test-fails _ _ _ (ap not f) ∙ test-fails _ _ _ (le-ltb _ _ l)
 
 -- a part takes its bytes where its flag is set
 size-of-a-part : (flag : Bool) (rows : Table) (n : ℕ) → size rows ≡ n * 8

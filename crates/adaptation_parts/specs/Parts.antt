@@ -1,6 +1,6 @@
 -- The parts of an adaptation field: document 01, "Present parts follow in that order".
 use Prim.Native.Nat.{ℕ, _+_, _*_}
-use mathlib.Core.Bool.{Bool}
+use mathlib.Core.Bool.{Bool, not}
 use mathlib.Core.List.{List}
 use lib.ListN.{length}
 use Rattle.fields.specs.Choice.{if_then_else_, _isBelow_}
@@ -21,10 +21,9 @@ use Rattle.adaptation_parts.specs.declared.TransportPrivateData.{Transpo
 -- "optional part's flag clear", then "field ends before the part does": what is read of a part from its first byte on
 unfoldable pub part : {Values : Type 0} → Bool → Table → List ℕ → Values → (List ℕ → Values) → Says Values
 part flag rows bytes none read =
-    if flag then
-    if length bytes * 8 isBelow size rows then refused fieldEndsBefore none
+    if not flag then refused flagClear none
+    else if length bytes * 8 isBelow size rows then refused fieldEndsBefore none
     else given (read bytes)
-    else refused flagClear none
 
 -- ---- PCR and OPCR
 

@@ -1,13 +1,13 @@
 -- What refuses the start of a section, and what is known where nothing does. Assumes nothing.
 use Prim.Native.Nat.{ℕ, _≤_}
 use mathlib.Core.Path.{_≡_, sym, ap, _∙_}
-use mathlib.Core.Bool.{true, false}
+use mathlib.Core.Bool.{true, false, not}
 use mathlib.Core.List.{List}
 use native.Mathlib.Omega.{arith}
 use lib.ListN.{length}
 use borrow.Author.Tests.{lt-ltb, le-ltb, ltb-false}
 use Rattle.fields.specs.Choice.{if_then_else_, _isBelow_, _isAbove_}
-use Rattle.fields.proofs.Choices.{test-holds, test-fails, first-chosen, second-chosen}
+use Rattle.fields.proofs.Choices.{test-holds, test-fails, second-chosen}
 use Rattle.answers.specs.Numbers.{under3Bytes, syntaxIndicator, under8Bytes, lengthAbove1021, versionRepeated}
 use Rattle.answers.specs.Says.{given, refused}
 use Rattle.answers.specs.Refusals.{numberOf}
@@ -33,7 +33,7 @@ module _ (form : Form) (memory : Memory) (bytes : List ℕ) where
     start-of-other-syntax other =
         let known = header-given bytes header is in
         test-fails _ _ _ (le-ltb _ _ (known .0))
-        ∙ test-fails _ _ _ (sym (ap (λ h. takesSyntax form (h .«section_syntax_indicator»)) (known .1)) ∙ other)
+        ∙ test-holds _ _ _ (ap not (sym (ap (λ h. takesSyntax form (h .«section_syntax_indicator»)) (known .1)) ∙ other))
 
     pub start-of-its-syntax : takesSyntax form (header .«section_syntax_indicator») ≡ true
         → startRefusal form memory bytes
@@ -46,7 +46,7 @@ module _ (form : Form) (memory : Memory) (bytes : List ℕ) where
         let known = header-given bytes header is in
         let long : header .«section_length» ≡ sectionLength bytes = ap (λ h. h .«section_length») (known .1) in
         test-fails _ _ _ (le-ltb _ _ (known .0))
-        ∙ test-holds _ _ _ (sym (ap (λ h. takesSyntax form (h .«section_syntax_indicator»)) (known .1)) ∙ its)
+        ∙ test-fails _ _ _ (ap not (sym (ap (λ h. takesSyntax form (h .«section_syntax_indicator»)) (known .1)) ∙ its))
         ∙ ap
         (λ (n : ℕ). if length bytes isBelow leastHeld form then under8Bytes else if n isAbove lengthLimit then lengthAbove1021
         else if repeats form memory bytes then versionRepeated else 0)
@@ -56,13 +56,13 @@ module _ (form : Form) (memory : Memory) (bytes : List ℕ) where
   pub record Starts : Type 0 where
     pub three : 3 ≤ length bytes
     pub least : leastHeld form ≤ length bytes
-    pub limit : sectionLength bytes ≤ 1021
+    pub limit : sectionLength bytes ≤ lengthLimit
 
   pub starts : startRefusal form memory bytes ≡ 0 → Starts
   unfolding startRefusal
   starts e =
       let three = second-chosen _ under3Bytes _ 0 e (λ f. omega arith) in
-      let syntax = first-chosen _ _ syntaxIndicator 0 (three .1) (λ f. omega arith) in
+      let syntax = second-chosen _ syntaxIndicator _ 0 (three .1) (λ f. omega arith) in
       let least = second-chosen _ under8Bytes _ 0 (syntax .1) (λ f. omega arith) in
       let limit = second-chosen _ lengthAbove1021 _ 0 (least .1) (λ f. omega arith) in
       record { three = ltb-false _ _ (three .0); least = ltb-false _ _ (least .0); limit = ltb-false _ _ (limit .0) }

@@ -1,9 +1,9 @@
 -- What every step tests first.
 use Prim.Native.Nat.{ℕ}
 use mathlib.Core.Path.{_≡_}
-use mathlib.Core.Bool.{Bool}
+use mathlib.Core.Bool.{Bool, not}
 use mathlib.Core.List.{List}
-use Rattle.fields.specs.Choice.{if_then_else_, _is_}
+use Rattle.fields.specs.Choice.{if_then_else_, _isNot_}
 use Rattle.answers.specs.Numbers.{bufferSize, stateNotSound}
 use Rattle.answers.specs.Says.{Says, refused}
 use Rattle.packet.specs.Header.{ofAPacket}
@@ -17,10 +17,9 @@ bufferLength = 1024
 unfoldable pub checked : Bool → List ℕ → ℕ → Says ℕ
 checked isSound packet buffer =
     ofAPacket packet 0
-    (if buffer is bufferLength then
-    if isSound then payloadBehind packet
-    else refused stateNotSound 0
-    else refused bufferSize 0)
+    (if buffer isNot bufferLength then refused bufferSize 0
+    else if not isSound then refused stateNotSound 0
+    else payloadBehind packet)
 
 -- an answer that speaks of packets and not of what the host handed back: neither 5 nor 25
 pub record NotTheHosts (answer : ℕ) : Type 0 where

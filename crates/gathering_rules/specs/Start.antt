@@ -28,9 +28,8 @@ takesSyntax Form.Once indicator = indicator
 unfoldable pub startRefusal : Form → Memory → List ℕ → ℕ
 startRefusal form memory bytes =
     if length bytes isBelow 3 then under3Bytes
-    else if takesSyntax form (section.syntaxIndicator bytes) then
-    if length bytes isBelow leastHeld form then under8Bytes
+    else if not (takesSyntax form (section.syntaxIndicator bytes)) then syntaxIndicator
+    else if length bytes isBelow leastHeld form then under8Bytes
     else if sectionLength bytes isAbove lengthLimit then lengthAbove1021
     else if repeats form memory bytes then versionRepeated
     else 0
-    else syntaxIndicator

@@ -31,10 +31,10 @@ pub fn checked(is_sound: bool, packet: &[u8], buffer: usize) -> Payload
             if buffer != Buffer::SIZE {
                 return Payload::Refused(Refusal::BufferSize);
             }
-            if is_sound {
-                return Packet::payload(packet);
+            if !is_sound {
+                return Payload::Refused(Refusal::StateNotSound);
             }
-            Payload::Refused(Refusal::StateNotSound)
+            Packet::payload(packet)
         }
         HeaderAnswer::Refused(refusal) => Payload::Refused(refusal),
     }
@@ -68,19 +68,19 @@ pub fn start_refusal(form: Form, memory: Memory, bytes: &[u8]) -> u8
     let psi::HeaderAnswer::Is(header) = Section::header(bytes) else {
         return Answer::UNDER_3_BYTES;
     };
-    if takes_syntax(form, header.section_syntax_indicator) {
-        if bytes.len() < least_held(form) as usize {
-            return Answer::UNDER_8_BYTES;
-        }
-        if Section::LENGTH_LIMIT < header.section_length {
-            return Answer::LENGTH_ABOVE_1021;
-        }
-        if memory.repeats(form, bytes) {
-            return Answer::VERSION_REPEATED;
-        }
-        return 0;
+    if !takes_syntax(form, header.section_syntax_indicator) {
+        return Answer::SYNTAX_INDICATOR;
     }
-    Answer::SYNTAX_INDICATOR
+    if bytes.len() < least_held(form) as usize {
+        return Answer::UNDER_8_BYTES;
+    }
+    if Section::LENGTH_LIMIT < header.section_length {
+        return Answer::LENGTH_ABOVE_1021;
+    }
+    if memory.repeats(form, bytes) {
+        return Answer::VERSION_REPEATED;
+    }
+    0
 }
 
 // 2, or why a whole section is refused: 16, 17.
@@ -90,10 +90,10 @@ fn crc_verdict(section: &[u8]) -> u8
     if section.len() < 12 {
         return Answer::SECTION_UNDER_12;
     }
-    if sum32(section) == 0 {
-        return Answer::DELIVERED;
+    if sum32(section) != 0 {
+        return Answer::CRC_NOT_ZERO;
     }
-    Answer::CRC_NOT_ZERO
+    Answer::DELIVERED
 }
 
 // The answer to a whole section: 2, 16, 17.

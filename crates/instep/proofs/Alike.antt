@@ -6,13 +6,15 @@ use mathlib.Core.List.{List, _++_}
 use native.Mathlib.Omega.{arith}
 use lib.ListN.{length, take, drop, length-take, length-drop}
 use lib.Seq.{take-take}
-use borrow.Author.Tests.{ltb-false}
+use borrow.Author.Tests.{ltb-false, not-true, not-false}
 use Rattle.fields.specs.Choice.{if_then_else_}
 use Rattle.fields.proofs.LaidBytes.{laid-length, laid-up-to-end, laid-at-front}
 use Rattle.fields.proofs.Choices.{of-both}
+use Rattle.packet.specs.Header.{size}
 use Rattle.memory.specs.declared.Form.{Form}
 use Rattle.memory.specs.declared.Memory.{Memory}
 use Rattle.memory.specs.Memory.{atStart}
+use Rattle.gathering_rules.specs.Checks.{bufferLength}
 use Rattle.gathering_rules.proofs.Checking.{found-place}
 use Rattle.delivered.specs.Delivered.{partOf, partHeldBy, sectionOf}
 use Rattle.reader.specs.declared.Reader.{Reader}
@@ -89,14 +91,14 @@ module _ (packet : List ℕ) where
 
   -- ---- bytes continue
 
-  module _ (reader : Reader) (x y : List ℕ) (isSound : sound reader ≡ true) (lx : length x ≡ 1024) (ly : length y ≡ 1024)
+  module _ (reader : Reader) (x y : List ℕ) (isSound : sound reader ≡ true) (lx : length x ≡ bufferLength) (ly : length y ≡ bufferLength)
       (same : take (reader .held) x ≡ take (reader .held) y) where
     continued-alike : (bytes : List ℕ) → Alike packet (continued reader bytes x) (continued reader bytes y)
     unfolding continued
     continued-alike bytes =
-        alike-either-way _ _ _ _ _
+        alike-either-way _ _ _ _ _ (λ isIdle. idle-alike 15 (reader .form) (reader .memory) x y)
         (λ isOpen.
-        let o = open-sound reader isSound isOpen in
+        let o = open-sound reader isSound (not-false _ isOpen) in
         let few : length (copied reader bytes) ≤ reader .wanted - reader .held = simp length-take (omega arith) in
         let fx : reader .held + length (copied reader bytes) ≤ length x = omega arith in
         let fy : reader .held + length (copied reader bytes) ≤ length y = omega arith in
@@ -115,24 +117,22 @@ module _ (packet : List ℕ) where
         whole-in-buffer-alike (reader .form) (reader .memory) (reader .wanted) _ _
         (laid-length x (reader .held) (copied reader bytes) fx ∙ lx
         ∙ sym (laid-length y (reader .held) (copied reader bytes) fy ∙ ly)) all))
-        (λ isIdle. idle-alike 15 (reader .form) (reader .memory) x y)
 
     tail-from-alike : (payload : List ℕ) → Alike packet (tailFrom reader packet payload x) (tailFrom reader packet payload y)
     unfolding tailFrom
     tail-from-alike payload =
-        alike-either-way _ _ _ _ _
+        alike-either-way _ _ _ _ _ (λ none. continued-alike payload)
         (λ unit. alike-either-way _ _ _ _ _ (λ none. answered-alike 0 reader x y same)
         (λ some. alike-either-way _ _ _ _ _ (λ beyond. idle-alike 9 (reader .form) _ x y) (λ within. continued-alike _)))
-        (λ none. continued-alike payload)
 
     -- both go on from one place, or both are refused
-    from-the-payload-alike : (f g : ℕ → Outcome) → ((start : ℕ) → length packet ≡ 188 → Alike packet (f start) (g start))
+    from-the-payload-alike : (f g : ℕ → Outcome) → ((start : ℕ) → length packet ≡ size → Alike packet (f start) (g start))
         → Alike packet (fromThePayload reader packet x f) (fromThePayload reader packet y g)
     unfolding fromThePayload fromAPlace
     from-the-payload-alike f g each =
         rw (lx, ly)
         (alike-either-way _ _ _ _ _
-        (λ found. each _ (found-place _ packet 1024 found .sized)) (λ refusal. answered-alike _ reader x y same))
+        (λ found. each _ (found-place _ packet bufferLength found .sized)) (λ refusal. answered-alike _ reader x y same))
 
     pub tail-alike : Alike packet (tailOf reader packet x) (tailOf reader packet y)
     unfolding tailOf
@@ -140,8 +140,8 @@ module _ (packet : List ℕ) where
 
   -- ---- a section starts: the answer does not ask what the buffer held
 
-  module _ (x y : List ℕ) (lx : length x ≡ 1024) (ly : length y ≡ 1024) where
-    begun-alike : (form : Form) (memory : Memory) (bytes : List ℕ) (at : ℕ) → length bytes ≤ 188
+  module _ (x y : List ℕ) (lx : length x ≡ bufferLength) (ly : length y ≡ bufferLength) where
+    begun-alike : (form : Form) (memory : Memory) (bytes : List ℕ) (at : ℕ) → length bytes ≤ size
         → Alike packet (begun form memory bytes at x) (begun form memory bytes at y)
     unfolding begun
     begun-alike form memory bytes at few =
@@ -149,7 +149,7 @@ module _ (packet : List ℕ) where
         (λ more. answered-alike 1 (opened form memory (length bytes) _) _ _
         (laid-at-front x bytes (omega arith) ∙ sym (laid-at-front y bytes (omega arith))))
 
-    started-alike : (form : Form) (memory : Memory) (bytes : List ℕ) (at : ℕ) → length bytes ≤ 188
+    started-alike : (form : Form) (memory : Memory) (bytes : List ℕ) (at : ℕ) → length bytes ≤ size
         → Alike packet (started form memory bytes at x) (started form memory bytes at y)
     unfolding started
     started-alike form memory bytes at few =
@@ -159,24 +159,22 @@ module _ (packet : List ℕ) where
     -- readers of one form that remember the same, whatever else their states are
     module _ (form : Form) (memory : Memory) (reader other : Reader) (f : reader .form ≡ form) (g : other .form ≡ form)
         (m : reader .memory ≡ memory) (n : other .memory ≡ memory) where
-      pub head-from-unit-start-alike : (start : ℕ) → length packet ≡ 188 → unitStart packet ≡ true
+      pub head-from-unit-start-alike : (start : ℕ) → length packet ≡ size → unitStart packet ≡ true
           → Alike packet (headFrom reader packet start x) (headFrom other packet start y)
       unfolding headFrom
       head-from-unit-start-alike start sized unit =
           rw (f, g, m, n)
-          (alike-either-way _ _ _ _ _
+          (alike-either-way _ _ _ _ _ (λ none. absurd (true≢false (sym unit ∙ not-true _ none)))
           (λ starts. alike-either-way _ _ _ _ _ (λ beyond. idle-alike 9 form _ x y)
-          (λ within. started-alike form memory _ _ (simp length-drop (omega arith))))
-          (λ none. absurd (true≢false (sym unit ∙ none))))
+          (λ within. started-alike form memory _ _ (simp length-drop (omega arith)))))
 
-    head-from-alike : (reader : Reader) → take (reader .held) x ≡ take (reader .held) y → (start : ℕ) → length packet ≡ 188
+    head-from-alike : (reader : Reader) → take (reader .held) x ≡ take (reader .held) y → (start : ℕ) → length packet ≡ size
         → Alike packet (headFrom reader packet start x) (headFrom reader packet start y)
     unfolding headFrom
     head-from-alike reader same start sized =
-        alike-either-way _ _ _ _ _
+        alike-either-way _ _ _ _ _ (λ none. answered-alike 0 reader x y same)
         (λ starts. alike-either-way _ _ _ _ _ (λ beyond. idle-alike 9 (reader .form) _ x y)
         (λ within. started-alike (reader .form) (reader .memory) _ _ (simp length-drop (omega arith))))
-        (λ none. answered-alike 0 reader x y same)
 
     pub head-alike : (reader : Reader) → sound reader ≡ true → take (reader .held) x ≡ take (reader .held) y
         → Alike packet (headOf reader packet x) (headOf reader packet y)

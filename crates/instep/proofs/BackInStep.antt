@@ -8,7 +8,7 @@ use Rattle.fields.specs.Choice.{if_then_else_}
 use Rattle.answers.specs.Says.{given}
 use Rattle.packet.specs.Payload.{payloadOf}
 use Rattle.memory.specs.declared.Form.{Form}
-use Rattle.gathering_rules.specs.Checks.{checked}
+use Rattle.gathering_rules.specs.Checks.{bufferLength, checked}
 use Rattle.gathering_rules.proofs.Checking.{passed}
 use Rattle.reader.specs.declared.Reader.{Reader}
 use Rattle.reader.specs.declared.Step.{Step}
@@ -31,7 +31,7 @@ step-alike packet a b h = ap (λ (s : Seen). s .step) (h .seenAlike)
 -- readers of one state, whose buffers hold the same of what is open, see the same over these packets
 abbrev AlikeOver : List (List ℕ) → Type 0
 AlikeOver packets =
-    (reader : Reader) (x y : List ℕ) → sound reader ≡ true → length x ≡ 1024 → length y ≡ 1024
+    (reader : Reader) (x y : List ℕ) → sound reader ≡ true → length x ≡ bufferLength → length y ≡ bufferLength
     → take (reader .held) x ≡ take (reader .held) y → seenOver reader x packets ≡ seenOver reader y packets
 
 behind-alike : (packets : List (List ℕ)) → AlikeOver packets → (packet : List ℕ) (a b : Outcome) → Alike packet a b → Keeps a
@@ -60,7 +60,7 @@ over-alike (packet ∷ packets) reader x y s lx ly same =
     ap₂ _∷_ (t .seenAlike) (ap₂ _∷_ (h .seenAlike) (behind-alike packets (over-alike packets) packet _ _ h ha hb))
 
 -- where the payload is found, a sound state with 1,024 bytes goes on from it
-place-of : (packet : List ℕ) → payloadOf packet .number ≡ 0 → (isSound : Bool) (buffer : ℕ) → isSound ≡ true → buffer ≡ 1024
+place-of : (packet : List ℕ) → payloadOf packet .number ≡ 0 → (isSound : Bool) (buffer : ℕ) → isSound ≡ true → buffer ≡ bufferLength
     → given (payloadOf packet .values) ≡ checked isSound packet buffer
 unfolding checked payloadOf if_then_else_
 place-of packet found isSound buffer s l =
@@ -69,7 +69,7 @@ place-of packet found isSound buffer s l =
 -- "Two fresh readers of one form, each lent 1,024 bytes whatever they hold, each with its own history, any packets at all, each worked tail then head, the host
 -- returning state and buffer untouched. Then both get the same packets, the first a sound one with a payload and a unit start. If both remember the same
 -- version, or both none, once that packet's tail is worked, then from its new section on all answers, states and delivered bytes agree."
-pub back-in-step : (form : Form) (buffer₁ buffer₂ : List ℕ) → length buffer₁ ≡ 1024 → length buffer₂ ≡ 1024
+pub back-in-step : (form : Form) (buffer₁ buffer₂ : List ℕ) → length buffer₁ ≡ bufferLength → length buffer₂ ≡ bufferLength
     → (history₁ history₂ : List (List ℕ)) (packet : List ℕ) (packets : List (List ℕ))
     → payloadOf packet .number ≡ 0 → unitStart packet ≡ true
     → tailBehind form buffer₁ history₁ packet .step .reader .memory

@@ -7,6 +7,7 @@ use lib.ListN.{length}
 use Rattle.packet.specs.Payload.{payloadOf}
 use Rattle.memory.specs.declared.Form.{Form}
 use Rattle.memory.specs.Memory.{noMemory}
+use Rattle.gathering_rules.specs.Checks.{bufferLength}
 use Rattle.reader.specs.Pointer.{unitStart}
 use Rattle.reader.proofs.Keeping.{tail-keeps}
 use Rattle.instep.specs.Seen.{seenFromHead, tailBehind}
@@ -14,7 +15,7 @@ use Rattle.instep.proofs.Forms.{history-kept, tail-form, Forgetful, ful
 use Rattle.instep.proofs.BackInStep.{back-in-step}
 
 -- COMPACT and FULL remember nothing once a tail is worked
-nothing-behind : (form : Form) → Forgetful form → (buffer : List ℕ) → length buffer ≡ 1024
+nothing-behind : (form : Form) → Forgetful form → (buffer : List ℕ) → length buffer ≡ bufferLength
     → (history : List (List ℕ)) (packet : List ℕ)
     → tailBehind form buffer history packet .step .reader .memory ≡ noMemory
 unfolding tailBehind
@@ -23,8 +24,8 @@ nothing-behind form forgets buffer lent history packet =
     let t = tail-keeps _ packet _ (k .soundState) (k .lent) in
     remembers-nothing _ (subst Forgetful (sym (tail-form _ packet _ ∙ k .formed)) forgets) (t .soundState)
 
--- "the state that a reader had before a line-up change cannot change what it delivers once a unit start came (COMPACT, FULL)"
-pub line-up-change : (form : Form) → Forgetful form → (buffer₁ buffer₂ : List ℕ) → length buffer₁ ≡ 1024 → length buffer₂ ≡ 1024
+-- the state that a reader had before a line-up change cannot change what it delivers once a unit start came (COMPACT, FULL)
+pub line-up-change : (form : Form) → Forgetful form → (buffer₁ buffer₂ : List ℕ) → length buffer₁ ≡ bufferLength → length buffer₂ ≡ bufferLength
     → (before₁ before₂ : List (List ℕ)) (packet : List ℕ) (packets : List (List ℕ)) → payloadOf packet .number ≡ 0
     → unitStart packet ≡ true
     → seenFromHead (tailBehind form buffer₁ before₁ packet) packet packets
@@ -33,9 +34,9 @@ line-up-change form forgets x y lx ly hx hy packet packets found unit =
     back-in-step form x y lx ly hx hy packet packets found unit
     (nothing-behind form forgets x lx hx packet ∙ sym (nothing-behind form forgets y ly hy packet))
 
--- "one damaged packet costs no more than the sections that it touches and the one being gathered (FULL)": two readers are fed alike but for one packet, which for
+-- one damaged packet costs no more than the sections that it touches and the one being gathered (FULL): two readers are fed alike but for one packet, which for
 -- one of them is damaged in any way, or lost, or another; from the next packet in which a section starts on both see the same
-pub one-damaged-packet : (buffer : List ℕ) → length buffer ≡ 1024 → (before : List (List ℕ)) (good damaged : List ℕ)
+pub one-damaged-packet : (buffer : List ℕ) → length buffer ≡ bufferLength → (before : List (List ℕ)) (good damaged : List ℕ)
     (between : List (List ℕ))
     (packet : List ℕ) (packets : List (List ℕ)) → payloadOf packet .number ≡ 0 → unitStart packet ≡ true
     → seenFromHead (tailBehind Form.Full buffer (before ++ good ∷ between) packet) packet packets

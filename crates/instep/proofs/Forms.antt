@@ -10,6 +10,7 @@ use Rattle.fields.proofs.Choices.{of-both}
 use Rattle.memory.specs.declared.Form.{Form}
 use Rattle.memory.specs.declared.Memory.{Memory}
 use Rattle.memory.specs.Memory.{noMemory, soundMemory, atStart}
+use Rattle.gathering_rules.specs.Checks.{bufferLength}
 use Rattle.delivered.specs.declared.Place.{Place}
 use Rattle.reader.specs.declared.Reader.{Reader}
 use Rattle.reader.specs.declared.Step.{Step}
@@ -45,8 +46,8 @@ module _ (reader : Reader) where
 
   continued-form : (bytes buffer : List ℕ) → SameForm (continued reader bytes buffer)
   unfolding continued
-  continued-form bytes buffer = of-both SameForm _ _ _
-      (of-both SameForm _ _ _ refl (whole-form (reader .form) (reader .memory) _ _)) refl
+  continued-form bytes buffer =
+      of-both SameForm _ _ _ refl (of-both SameForm _ _ _ refl (whole-form (reader .form) (reader .memory) _ _))
 
   from-the-payload-form : (packet buffer : List ℕ) (goOn : ℕ → Outcome) → ((start : ℕ) → SameForm (goOn start))
       → SameForm (fromThePayload reader packet buffer goOn)
@@ -56,8 +57,8 @@ module _ (reader : Reader) where
   tail-from-form : (packet payload buffer : List ℕ) → SameForm (tailFrom reader packet payload buffer)
   unfolding tailFrom
   tail-from-form packet payload buffer =
-      of-both SameForm _ _ _ (of-both SameForm _ _ _ refl (of-both SameForm _ _ _ refl (continued-form _ buffer)))
-      (continued-form payload buffer)
+      of-both SameForm _ _ _ (continued-form payload buffer)
+      (of-both SameForm _ _ _ refl (of-both SameForm _ _ _ refl (continued-form _ buffer)))
 
   pub tail-form : (packet buffer : List ℕ) → SameForm (tailOf reader packet buffer)
   unfolding tailOf
@@ -66,7 +67,7 @@ module _ (reader : Reader) where
   head-from-form : (packet : List ℕ) (start : ℕ) (buffer : List ℕ) → SameForm (headFrom reader packet start buffer)
   unfolding headFrom
   head-from-form packet start buffer =
-      of-both SameForm _ _ _ (of-both SameForm _ _ _ refl (started-form (reader .form) (reader .memory) _ _ buffer)) refl
+      of-both SameForm _ _ _ refl (of-both SameForm _ _ _ refl (started-form (reader .form) (reader .memory) _ _ buffer))
 
   pub head-form : (packet buffer : List ℕ) → SameForm (headOf reader packet buffer)
   unfolding headOf
@@ -78,11 +79,11 @@ module _ (reader : Reader) where
 pub record Kept (form : Form) (left : Left) : Type 0 where
   pub formed : left .reader .form ≡ form
   pub soundState : sound (left .reader) ≡ true
-  pub lent : length (left .buffer) ≡ 1024
+  pub lent : length (left .buffer) ≡ bufferLength
 
 after-kept : (form : Form) (reader : Reader) (buffer : List ℕ) (history : List (List ℕ)) → reader .form ≡ form → sound reader
     ≡ true
-    → length buffer ≡ 1024 → Kept form (after reader buffer history)
+    → length buffer ≡ bufferLength → Kept form (after reader buffer history)
 unfolding after worked
 after-kept form reader buffer [] f s l = record { formed = f; soundState = s; lent = l }
 after-kept form reader buffer (packet ∷ history) f s l =
@@ -90,7 +91,7 @@ after-kept form reader buffer (packet ∷ history) f s l =
     let h = head-keeps _ packet _ (t .soundState) (t .lent) in
     after-kept form _ _ history (head-form _ packet _ ∙ tail-form reader packet buffer ∙ f) (h .soundState) (h .lent)
 
-pub history-kept : (form : Form) (buffer : List ℕ) (history : List (List ℕ)) → length buffer ≡ 1024
+pub history-kept : (form : Form) (buffer : List ℕ) (history : List (List ℕ)) → length buffer ≡ bufferLength
     → Kept form (after (fresh form) buffer history)
 history-kept form buffer history l = after-kept form (fresh form) buffer history refl (fresh-sound form) l
 

@@ -1,18 +1,18 @@
 -- Demand 3, what is delivered: exactly the first 3 plus section_length of the bytes fed from the section's start on. Assumes nothing.
 use Prim.Native.Nat.{ℕ, _+_, _-_, _≤_, _<_}
 use mathlib.Core.Path.{_≡_, refl, sym, ap, ap₂, _∙_, subst}
-use mathlib.Core.Bool.{true, false, true≢false}
+use mathlib.Core.Bool.{true, false, not, true≢false}
 use mathlib.Core.List.{List, [], _∷_, _++_, append-nil, append-assoc}
 use native.Mathlib.Omega.{arith}
 use lib.ListN.{length, take, drop, length-take, length-drop, length-append, take-append-drop}
 use lib.Seq.{take-all, take-append-add, drop-drop}
-use borrow.Author.Tests.{eqb-true, eqb-false, ltb-true, ltb-false, leb-true, le-ltb}
+use borrow.Author.Tests.{eqb-true, eqb-false, ltb-true, ltb-false, leb-true, le-ltb, not-true, not-false}
 use Rattle.fields.specs.Choice.{if_then_else_}
-use Rattle.fields.proofs.Choices.{test-holds, test-fails, of-both, of-either, both-hold, first-chosen, second-chosen}
+use Rattle.fields.proofs.Choices.{test-holds, test-fails, of-both, of-either, both-hold, second-chosen}
 use Rattle.fields.proofs.LaidBytes.{laid-length, laid-up-to-end, laid-at-front}
 use Rattle.answers.specs.Numbers.{delivered}
 use Rattle.answers.specs.Says.{Says}
-use Rattle.packet.specs.Header.{ofAPacket}
+use Rattle.packet.specs.Header.{size, ofAPacket}
 use Rattle.packet.specs.Payload.{startingAt, payloadBehind, payloadOf}
 use Rattle.mpegts_crc.specs.Crc.{crcOf}
 use Rattle.psi.specs.Header.{wanted}
@@ -20,7 +20,7 @@ use Rattle.psi.proofs.Sections.{wanted-by-front}
 use Rattle.memory.specs.declared.Form.{Form}
 use Rattle.memory.specs.declared.Memory.{Memory}
 use Rattle.memory.specs.Memory.{atStart}
-use Rattle.gathering_rules.specs.Checks.{checked}
+use Rattle.gathering_rules.specs.Checks.{bufferLength, checked}
 use Rattle.gathering_rules.specs.Start.{leastHeld, startRefusal}
 use Rattle.gathering_rules.specs.Verdict.{crcVerdict, verdict}
 use Rattle.gathering_rules.proofs.Checking.{found-place}
@@ -98,7 +98,7 @@ crc-verdict-zero : (section : List ℕ) → crcVerdict section ≡ 2 → crcOf s
 unfolding crcVerdict
 crc-verdict-zero section e =
     let long = second-chosen _ 16 _ 2 e (λ f. omega arith) in
-    eqb-true _ _ (first-chosen _ 2 17 2 (long .1) (λ f. omega arith) .0)
+    eqb-true _ _ (not-false _ (second-chosen _ 17 2 2 (long .1) (λ f. omega arith) .0))
 
 crc-zero : (form : Form) (section : List ℕ) → verdict form section ≡ 2 → TestsCrc form → crcOf section ≡ 0
 unfolding verdict
@@ -145,7 +145,7 @@ read-in-packet packet buffer at len fits = part-within packet at len fits
 -- ---- the payload
 
 -- a sound state with 1,024 bytes goes on where there is a payload
-from-the-payload : (reader : Reader) (packet buffer : List ℕ) → sound reader ≡ true → length buffer ≡ 1024
+from-the-payload : (reader : Reader) (packet buffer : List ℕ) → sound reader ≡ true → length buffer ≡ bufferLength
     → (goOn : ℕ → Outcome)
     → fromThePayload reader packet buffer goOn
     ≡ (if hasPayload packet then goOn (payloadOf packet .values) else outcome
@@ -160,37 +160,35 @@ record NotDelivered (says : Says ℕ) : Type 0 where
 start-not-delivered : (start : ℕ) → NotDelivered (startingAt start)
 unfolding startingAt
 start-not-delivered start =
-    of-both NotDelivered _ _ _ (record { not2 = eqb-false 0 2 refl })
-    (of-both NotDelivered _ _ _ (record { not2 = eqb-false 7 2 refl }) (record { not2 = eqb-false 8 2 refl }))
+    of-both NotDelivered _ _ _ (record { not2 = eqb-false 7 2 refl })
+    (of-both NotDelivered _ _ _ (record { not2 = eqb-false 8 2 refl }) (record { not2 = eqb-false 0 2 refl }))
 
 payload-not-delivered : (packet : List ℕ) → NotDelivered (payloadOf packet)
 unfolding payloadOf ofAPacket payloadBehind
 payload-not-delivered packet =
-    of-both NotDelivered _ _ _
-    (of-both NotDelivered _ _ _
+    of-both NotDelivered _ _ _ (record { not2 = eqb-false 3 2 refl })
+    (of-both NotDelivered _ _ _ (record { not2 = eqb-false 4 2 refl })
     (of-both NotDelivered _ _ _ (start-not-delivered 4)
-    (of-both NotDelivered _ _ _ (start-not-delivered _) (record { not2 = eqb-false 6 2 refl })))
-    (record { not2 = eqb-false 4 2 refl }))
-    (record { not2 = eqb-false 3 2 refl })
+    (of-both NotDelivered _ _ _ (start-not-delivered _) (record { not2 = eqb-false 6 2 refl }))))
 
 -- and a payload is found only in 188 bytes
-payload-sized : (packet : List ℕ) → hasPayload packet ≡ true → length packet ≡ 188
+payload-sized : (packet : List ℕ) → hasPayload packet ≡ true → length packet ≡ size
 unfolding checked payloadOf if_then_else_
-payload-sized packet placed = found-place true packet 1024 placed .sized
+payload-sized packet placed = found-place true packet bufferLength placed .sized
 
 module _ (packet : List ℕ) where
   continuing-nothing : hasPayload packet ≡ false → continuing packet ≡ []
   unfolding continuing
-  continuing-nothing none = test-fails _ _ _ none
+  continuing-nothing none = test-holds _ _ _ (ap not none)
 
   module _ (placed : hasPayload packet ≡ true) where
     continuing-up-to : unitStart packet ≡ true → continuing packet ≡ take (pointer (payload packet)) (rest (payload packet))
     unfolding continuing
-    continuing-up-to unit = test-holds _ _ _ placed ∙ test-holds _ _ _ unit
+    continuing-up-to unit = test-fails _ _ _ (ap not placed) ∙ test-holds _ _ _ unit
 
     continuing-whole : unitStart packet ≡ false → continuing packet ≡ payload packet
     unfolding continuing
-    continuing-whole none = test-holds _ _ _ placed ∙ test-fails _ _ _ none
+    continuing-whole none = test-fails _ _ _ (ap not placed) ∙ test-fails _ _ _ none
 
 -- ---- what was fed from a start on
 
@@ -224,7 +222,7 @@ pub record Gathers (history : List (List ℕ)) (fed : LastStart history → List
 -- ---- the tail
 
 module _ (form : Form) (history : List (List ℕ)) (packet : List ℕ) (reader : Reader) (buffer : List ℕ) (formed : reader .form ≡ form)
-    (isSound : sound reader ≡ true) (lent : length buffer ≡ 1024)
+    (isSound : sound reader ≡ true) (lent : length buffer ≡ bufferLength)
     (gathers : reader .«is_open» ≡ true → Gathers history fedSince reader buffer) where
   abbrev TailLeaves : Outcome → Type 0
   TailLeaves = Leaves packet (ByTail form history packet) (Gathers history (fedWith packet))
@@ -233,7 +231,9 @@ module _ (form : Form) (history : List (List ℕ)) (packet : List ℕ) (reader :
   unfolding continued
   continued-leaves bytes e =
       of-either TailLeaves _ _ _
-      (λ isOpen.
+      (λ isIdle. leaves-idle 15 (reader .form) (reader .memory) buffer (λ e. omega arith))
+      (λ notIdle.
+      let isOpen : reader .«is_open» ≡ true = not-false _ notIdle in
       let o = open-sound reader isSound isOpen in
       let started = gathers isOpen .started in
       let have = gathers isOpen .holds in
@@ -277,7 +277,6 @@ module _ (form : Form) (history : List (List ℕ)) (packet : List ℕ) (reader :
         isFirst = subst (λ (f : Form). IsFirstOf (fedWith packet started) f read) formed
             (subst (λ (l : List ℕ). IsFirstOf l (reader .form) read) with-packet isFirst);
       })))
-      (λ isIdle. leaves-idle 15 (reader .form) (reader .memory) buffer (λ e. omega arith))
 
   -- a packet that feeds nothing leaves what was fed
   nothing-fed : continuing packet ≡ [] → reader .«is_open» ≡ true → Gathers history (fedWith packet) reader buffer
@@ -292,15 +291,14 @@ module _ (form : Form) (history : List (List ℕ)) (packet : List ℕ) (reader :
   tail-from-leaves : hasPayload packet ≡ true → TailLeaves (tailFrom reader packet (payload packet) buffer)
   unfolding tailFrom
   tail-from-leaves placed =
+      of-either TailLeaves _ _ _ (λ none. continued-leaves (payload packet) (continuing-whole packet placed (not-true _ none)))
+      (λ some.
+      let what = continuing-up-to packet placed (not-false _ some) in
       of-either TailLeaves _ _ _
-      (λ unit.
-      let what = continuing-up-to packet placed unit in
-      of-either TailLeaves _ _ _
-      (λ none. leaves-answered 0 reader buffer (eqb-false 0 2 refl)
-      (nothing-fed (what ∙ ap (λ (n : ℕ). take n (rest (payload packet))) (eqb-true (pointer (payload packet)) 0 none))))
-      (λ some. of-either TailLeaves _ _ _
+      (λ zero. leaves-answered 0 reader buffer (eqb-false 0 2 refl)
+      (nothing-fed (what ∙ ap (λ (n : ℕ). take n (rest (payload packet))) (eqb-true (pointer (payload packet)) 0 zero))))
+      (λ above. of-either TailLeaves _ _ _
       (λ beyond. leaves-idle 9 (reader .form) _ buffer (eqb-false 9 2 refl)) (λ within. continued-leaves _ what)))
-      (λ none. continued-leaves (payload packet) (continuing-whole packet placed none))
 
   pub tail-leaves : TailLeaves (tailOf reader packet buffer)
   unfolding tailOf
@@ -317,10 +315,9 @@ start-is-not-2 : (form : Form) (memory : Memory) (bytes : List ℕ) → startRef
 unfolding startRefusal
 start-is-not-2 form memory bytes =
     of-both Not2 _ _ _ (eqb-false 10 2 refl)
-    (of-both Not2 _ _ _
+    (of-both Not2 _ _ _ (eqb-false 11 2 refl)
     (of-both Not2 _ _ _ (eqb-false 12 2 refl)
-    (of-both Not2 _ _ _ (eqb-false 13 2 refl) (of-both Not2 _ _ _ (eqb-false 14 2 refl) (eqb-false 0 2 refl))))
-    (eqb-false 11 2 refl))
+    (of-both Not2 _ _ _ (eqb-false 13 2 refl) (of-both Not2 _ _ _ (eqb-false 14 2 refl) (eqb-false 0 2 refl)))))
   where
     Not2 : ℕ → Type 0
     Not2 n = n ≡ 2 → ⊥
@@ -343,18 +340,18 @@ none-behind [] packet none n = (n, none)
 none-behind (first ∷ packets) packet none n = (none .0, none-behind packets packet (none .1) n)
 
 module _ (form : Form) (history : List (List ℕ)) (packet : List ℕ) (reader : Reader) (buffer : List ℕ) (formed : reader .form ≡ form)
-    (isSound : sound reader ≡ true) (lent : length buffer ≡ 1024)
+    (isSound : sound reader ≡ true) (lent : length buffer ≡ bufferLength)
     (gathers : reader .«is_open» ≡ true → Gathers history (fedWith packet) reader buffer) where
   abbrev HeadLeaves : Outcome → Type 0
   HeadLeaves = Leaves packet (ByHead form packet) (Gathers (history ++ packet ∷ []) fedSince)
 
   -- a section that starts in the packet, at this place
-  module _ (starts : mayStart packet ≡ true) (sized : length packet ≡ 188) (at : ℕ) (feeds : drop at packet ≡ fedFrom packet []) where
+  module _ (starts : mayStart packet ≡ true) (sized : length packet ≡ size) (at : ℕ) (feeds : drop at packet ≡ fedFrom packet []) where
     begun-leaves : (memory : Memory) → HeadLeaves (begun (reader .form) memory (drop at packet) at buffer)
     unfolding begun NoneMayStart
     begun-leaves memory =
         let bytes = drop at packet in
-        let few : length (drop at packet) ≤ 188 = simp length-drop (omega arith) in
+        let few : length (drop at packet) ≤ size = simp length-drop (omega arith) in
         of-either HeadLeaves _ _ _
         (λ here.
         let enough : wanted bytes ≤ length bytes = leb-true (wanted bytes) (length bytes) here in
@@ -403,11 +400,11 @@ module _ (form : Form) (history : List (List ℕ)) (packet : List ℕ) (reader :
   head-from-leaves placed =
       let start = payloadOf packet .values in
       of-either HeadLeaves _ _ _
-      (λ unit. of-either HeadLeaves _ _ _
+      (λ none. leaves-answered 0 reader buffer (eqb-false 0 2 refl) (later-packet (test-holds _ _ _ placed ∙ not-true _ none)))
+      (λ some. of-either HeadLeaves _ _ _
       (λ beyond. leaves-idle 9 (reader .form) _ buffer (eqb-false 9 2 refl))
-      (λ within. started-leaves (both-hold _ _ placed unit) (payload-sized packet placed) (start + 1 + pointer (payload packet))
-      (from-start packet start ∙ sym (fed-by-the-start packet))))
-      (λ none. leaves-answered 0 reader buffer (eqb-false 0 2 refl) (later-packet (test-holds _ _ _ placed ∙ none)))
+      (λ within. started-leaves (both-hold _ _ placed (not-false _ some)) (payload-sized packet placed)
+      (start + 1 + pointer (payload packet)) (from-start packet start ∙ sym (fed-by-the-start packet))))
 
   pub head-leaves : HeadLeaves (headOf reader packet buffer)
   unfolding headOf
@@ -425,7 +422,7 @@ abbrev Gathering : List (List ℕ) → Left → Type 0
 Gathering history left = left .reader .«is_open» ≡ true → Gathers history fedSince (left .reader) (left .buffer)
 
 gathers-behind : (form : Form) (before history : List (List ℕ)) (reader : Reader) (buffer : List ℕ) → reader .form ≡ form
-    → sound reader ≡ true → length buffer ≡ 1024 → Gathering before (after reader buffer [])
+    → sound reader ≡ true → length buffer ≡ bufferLength → Gathering before (after reader buffer [])
     → Gathering (before ++ history) (after reader buffer history)
 unfolding after worked
 gathers-behind form before [] reader buffer f s l gathers =
@@ -440,7 +437,7 @@ gathers-behind form before (packet ∷ history) reader buffer f s l gathers =
     (append-assoc before (packet ∷ []) history)
     (gathers-behind form (before ++ packet ∷ []) history _ _ (head-form _ packet _ ∙ ft) (kh .soundState) (kh .lent) (h .opens))
 
-history-gathers : (form : Form) (buffer : List ℕ) (history : List (List ℕ)) → length buffer ≡ 1024
+history-gathers : (form : Form) (buffer : List ℕ) (history : List (List ℕ)) → length buffer ≡ bufferLength
     → Gathering history (after (fresh form) buffer history)
 unfolding after
 history-gathers form buffer history lent =
@@ -449,7 +446,7 @@ history-gathers form buffer history lent =
 -- ---- the theorem
 
 -- "at any time": whatever a packet's tail or head step delivers behind any history
-pub what-is-delivered : (form : Form) (buffer : List ℕ) → length buffer ≡ 1024 → (history : List (List ℕ)) (packet : List ℕ)
+pub what-is-delivered : (form : Form) (buffer : List ℕ) → length buffer ≡ bufferLength → (history : List (List ℕ)) (packet : List ℕ)
     → (let tail = tailBehind form buffer history packet in
     let head = headAfter packet tail in
     (tail .step .answer ≡ delivered → ByTail form history packet (seen packet tail .section))

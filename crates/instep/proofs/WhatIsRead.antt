@@ -8,7 +8,7 @@ use lib.ListN.{length, drop}
 use lib.Seq.{drop-drop}
 use borrow.Author.Tests.{eqb-true}
 use Rattle.fields.specs.Choice.{if_then_else_, _is_}
-use Rattle.fields.proofs.Choices.{first-chosen, either-way}
+use Rattle.fields.proofs.Choices.{second-chosen, either-way}
 use Rattle.answers.specs.Says.{Says, given}
 use Rattle.answers.specs.declared.Refusal.{Refusal}
 use Rattle.answers.proofs.Saying.{same-values, given-is-not-refused}
@@ -29,10 +29,9 @@ use Rattle.instep.specs.Read.{ReadAlike}
 starts-at : (n start : ℕ) → startingAt n ≡ given start → n ≡ start
 unfolding startingAt
 starts-at n start e =
-    either-way _ _ _ _ e (λ below f. same-values f)
-    (λ above f. absurd (either-way _ _ _ _ f
-    (λ same g. given-is-not-refused Refusal.PayloadEmpty (sym g))
-    (λ more g. given-is-not-refused Refusal.PayloadBeyond (sym g))))
+    let notAt = second-chosen _ _ _ _ e (λ f. given-is-not-refused Refusal.PayloadEmpty (sym f)) in
+    let notAbove = second-chosen _ _ _ _ (notAt .1) (λ f. given-is-not-refused Refusal.PayloadBeyond (sym f)) in
+    same-values (notAbove .1)
 
 payload-behind-header : (packet : List ℕ) (start : ℕ) → payloadBehind packet ≡ given start → 4 ≤ start
 unfolding payloadBehind
@@ -47,10 +46,10 @@ unfolding checked ofAPacket
 place-behind-header isSound packet buffer found =
     let place = checked isSound packet buffer in
     let e : given (place .values) ≡ place = ap (λ (n : ℕ). record { number = n; values = place .values }) (sym (eqb-true _ _ found)) in
-    let size = first-chosen _ _ _ _ (sym e) (λ f. given-is-not-refused Refusal.PacketSize (sym f)) in
-    let sync = first-chosen _ _ _ _ (size .1) (λ f. given-is-not-refused Refusal.NoSyncByte (sym f)) in
-    let lent = first-chosen _ _ _ _ (sync .1) (λ f. given-is-not-refused Refusal.BufferSize (sym f)) in
-    let state = first-chosen _ _ _ _ (lent .1) (λ f. given-is-not-refused Refusal.StateNotSound (sym f)) in
+    let size = second-chosen _ _ _ _ (sym e) (λ f. given-is-not-refused Refusal.PacketSize (sym f)) in
+    let sync = second-chosen _ _ _ _ (size .1) (λ f. given-is-not-refused Refusal.NoSyncByte (sym f)) in
+    let lent = second-chosen _ _ _ _ (sync .1) (λ f. given-is-not-refused Refusal.BufferSize (sym f)) in
+    let state = second-chosen _ _ _ _ (lent .1) (λ f. given-is-not-refused Refusal.StateNotSound (sym f)) in
     payload-behind-header packet (place .values) (state .1)
 
 -- ---- two packets

@@ -3,7 +3,7 @@
 -- form: no reader's state or buffer comes into it.
 use Prim.Native.Nat.{ℕ, _+_, _≤_}
 use mathlib.Core.Path.{_≡_}
-use mathlib.Core.Bool.{Bool, true, false}
+use mathlib.Core.Bool.{Bool, true, false, not}
 use mathlib.Core.List.{List, [], _∷_, _++_}
 use lib.ListN.{length, take, drop}
 use Rattle.fields.specs.Choice.{if_then_else_, _and_, _is_}
@@ -34,10 +34,9 @@ fromTarget packet = drop (pointer (payload packet)) (rest (payload packet))
 -- pointer bytes and what lies at or behind a later pointer's target"; else the whole payload
 unfoldable pub continuing : List ℕ → List ℕ
 continuing packet =
-    if hasPayload packet then
-    if unitStart packet then take (pointer (payload packet)) (rest (payload packet))
+    if not (hasPayload packet) then []
+    else if unitStart packet then take (pointer (payload packet)) (rest (payload packet))
     else payload packet
-    else []
 
 -- ---- of packets
 

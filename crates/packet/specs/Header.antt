@@ -3,7 +3,7 @@ use Prim.Native.Nat.{ℕ}
 use mathlib.Core.Bool.{false}
 use mathlib.Core.List.{List}
 use lib.ListN.{length}
-use Rattle.fields.specs.Choice.{if_then_else_, _is_}
+use Rattle.fields.specs.Choice.{if_then_else_, _is_, _isNot_}
 use Rattle.fields.specs.SyntaxTable.{field}
 use Rattle.answers.specs.Numbers.{packetSize, noSyncByte}
 use Rattle.answers.specs.Says.{Says, given, refused}
@@ -22,10 +22,9 @@ syncByte = 0x47
 -- "Packet header, payload and field calls test 3 and 4 first": what is said of a packet once it is one
 unfoldable pub ofAPacket : {Values : Type 0} → List ℕ → Values → Says Values → Says Values
 ofAPacket packet none asked =
-    if length packet is size then
-    if field transportPacket "sync_byte" packet is syncByte then asked
-    else refused noSyncByte none
-    else refused packetSize none
+    if length packet isNot size then refused packetSize none
+    else if field transportPacket "sync_byte" packet isNot syncByte then refused noSyncByte none
+    else asked
 
 -- all numbers of a refused header are 0
 abbrev pub noHeader : Header

@@ -2,7 +2,7 @@
 use Prim.Native.Nat.{ℕ, _+_}
 use mathlib.Core.List.{List}
 use lib.ListN.{drop}
-use Rattle.fields.specs.Choice.{if_then_else_, _is_, _isBelow_}
+use Rattle.fields.specs.Choice.{if_then_else_, _is_, _isAbove_}
 use Rattle.fields.specs.SyntaxTable.{field}
 use Rattle.answers.specs.Numbers.{noPayload, payloadEmpty, payloadBeyond}
 use Rattle.answers.specs.Says.{Says, given, refused}
@@ -24,12 +24,12 @@ controlOf packet = field transportPacket "adaptation_field_control" packet
 abbrev pub lengthByte : List ℕ → ℕ
 lengthByte packet = field adaptationFieldLength "adaptation_field_length" (drop 4 packet)
 
--- a payload that starts there, or "payload start is 188", "payload start above 188"
+-- "payload start is 188", then "payload start above 188"; else the payload starts there
 unfoldable pub startingAt : ℕ → Says ℕ
 startingAt start =
-    if start isBelow size then given start
-    else if start is size then refused payloadEmpty 0
-    else refused payloadBeyond 0
+    if start is size then refused payloadEmpty 0
+    else if start isAbove size then refused payloadBeyond 0
+    else given start
 
 -- "With 01 the payload starts at 4; with 11 at 5 plus byte 4"
 unfoldable pub payloadBehind : List ℕ → Says ℕ

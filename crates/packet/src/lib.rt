@@ -78,13 +78,13 @@ impl Payload {
 fn starting_at(start: usize) -> Payload
     ensures { λ r. ⌜ payloadSays r ≡ startingAt start ⌝ }
 {
-    if start < Packet::SIZE {
-        return Payload::At(start);
-    }
     if start == Packet::SIZE {
         return Payload::Refused(Refusal::PayloadEmpty);
     }
-    Payload::Refused(Refusal::PayloadBeyond)
+    if Packet::SIZE < start {
+        return Payload::Refused(Refusal::PayloadBeyond);
+    }
+    Payload::At(start)
 }
 
 // The payload of a packet with this adaptation field control.

@@ -1,7 +1,7 @@
 -- A host's walk gets what the standard's loop holds, for every kind of entry. Assumes nothing.
 use Prim.Native.Nat.{ℕ, zero, suc, _+_, _-_, _≤_, _<_}
 use mathlib.Core.Path.{_≡_, refl, sym, ap, ap₂, _∙_}
-use mathlib.Core.Bool.{Bool, true, false}
+use mathlib.Core.Bool.{Bool, true, false, not}
 use mathlib.Core.List.{List, [], _∷_}
 use native.Mathlib.Omega.{arith}
 use borrow.Author.Tests.{lt-ltb, le-ltb, eqb-true, eqb-false, eq-eqb, ne-eqb}
@@ -35,9 +35,8 @@ module _ {Entry : Type 0} (kind : Kind Entry) (body : List ℕ) (position : ℕ)
 
   found-before-end : position < length body
       → foundAt kind body position
-      ≡ (if kind .fits (drop position body) then
-      given (record { entry = kind .entry position (drop position body); next = position + kind .size (drop position body) })
-      else refused noEntryFits (nothing kind))
+      ≡ (if not (kind .fits (drop position body)) then refused noEntryFits (nothing kind)
+      else given (record { entry = kind .entry position (drop position body); next = position + kind .size (drop position body) }))
   unfolding foundAt
   found-before-end l =
       test-fails _ _ _ (le-ltb (length body) position (omega arith))
@@ -46,11 +45,11 @@ module _ {Entry : Type 0} (kind : Kind Entry) (body : List ℕ) (position : ℕ)
   pub found-entry : position < length body → kind .fits (drop position body) ≡ true
       → foundAt kind body position
       ≡ given (record { entry = kind .entry position (drop position body); next = position + kind .size (drop position body) })
-  found-entry l f = found-before-end l ∙ test-holds _ _ _ f
+  found-entry l f = found-before-end l ∙ test-fails _ _ _ (ap not f)
 
   pub found-none : position < length body → kind .fits (drop position body) ≡ false
       → foundAt kind body position ≡ refused noEntryFits (nothing kind)
-  found-none l f = found-before-end l ∙ test-fails _ _ _ f
+  found-none l f = found-before-end l ∙ test-holds _ _ _ (ap not f)
 
 -- ---- a host that asks once more
 

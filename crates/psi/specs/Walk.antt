@@ -1,6 +1,6 @@
 -- Walks over a body, whatever its entries are: document 01, "Walks take a body and a position", and the loops of the standard.
 use Prim.Native.Nat.{ℕ, zero, suc, _+_}
-use mathlib.Core.Bool.{Bool}
+use mathlib.Core.Bool.{Bool, not}
 use mathlib.Core.List.{List, [], _∷_}
 use lib.ListN.{length, drop}
 use Rattle.fields.specs.Choice.{if_then_else_, _is_, _isAbove_}
@@ -25,14 +25,13 @@ pub record Found (Entry : Type 0) : Type 0 where
 abbrev pub nothing : {Entry : Type 0} → Kind Entry → Found Entry
 nothing kind = record { entry = kind .none; next = 0 }
 
--- "26 if above its length, then 23 if nothing is left"; then the entry that stands there, or "no entry fits here"
+-- "26 if above its length, then 23 if nothing is left"; then "no entry fits here", or the entry that stands there
 unfoldable pub foundAt : {Entry : Type 0} → Kind Entry → List ℕ → ℕ → Says (Found Entry)
 foundAt kind body position =
     if position isAbove length body then refused positionAboveLength (nothing kind)
     else if position is length body then refused walkAtEnd (nothing kind)
-    else if kind .fits (drop position body) then
-    given (record { entry = kind .entry position (drop position body); next = position + kind .size (drop position body) })
-    else refused noEntryFits (nothing kind)
+    else if not (kind .fits (drop position body)) then refused noEntryFits (nothing kind)
+    else given (record { entry = kind .entry position (drop position body); next = position + kind .size (drop position body) })
 
 -- ---- a loop of the standard, `for (i = 0; i < N; i++) { .. }`
 

@@ -1,7 +1,7 @@
 -- How bytes continue an open section, by how many there are. Assumes nothing.
 use Prim.Native.Nat.{ℕ, _+_, _-_, _≤_, _<_}
-use mathlib.Core.Path.{_≡_, _∙_}
-use mathlib.Core.Bool.{true, false}
+use mathlib.Core.Path.{_≡_, ap, _∙_}
+use mathlib.Core.Bool.{true, false, not}
 use mathlib.Core.List.{List}
 use native.Mathlib.Omega.{arith}
 use lib.ListN.{length, take}
@@ -20,7 +20,7 @@ module _ (reader : Reader) (bytes buffer : List ℕ) where
   pub continued-idle : reader .«is_open» ≡ false
       → continued reader bytes buffer ≡ outcome (answered noSectionOpen (idle (reader .form) (reader .memory))) buffer
   unfolding continued
-  continued-idle isIdle = test-fails _ _ _ isIdle
+  continued-idle isIdle = test-holds _ _ _ (ap not isIdle)
 
   module _ (isOpen : reader .«is_open» ≡ true) where
     -- fewer than are wanted
@@ -33,7 +33,7 @@ module _ (reader : Reader) (bytes buffer : List ℕ) where
         let all : take (reader .wanted - reader .held) bytes ≡ bytes = take-all (reader .wanted - reader .held) bytes
         (omega arith) in
         let wants : reader .held + length bytes < reader .wanted = omega arith in
-        test-holds _ _ _ isOpen ∙ rw all (test-holds _ _ _ (lt-ltb _ _ wants))
+        test-fails _ _ _ (ap not isOpen) ∙ rw all (test-holds _ _ _ (lt-ltb _ _ wants))
 
     -- as many as are wanted, or more
     pub continued-whole : reader .held < reader .wanted → reader .wanted - reader .held ≤ length bytes
@@ -47,4 +47,4 @@ module _ (reader : Reader) (bytes buffer : List ℕ) where
         let l : length (take (reader .wanted - reader .held) bytes)
         ≡ reader .wanted - reader .held = length-take-le _ bytes enough in
         let none : reader .wanted ≤ reader .held + length (take (reader .wanted - reader .held) bytes) = omega arith in
-        test-holds _ _ _ isOpen ∙ test-fails _ _ _ (le-ltb _ _ none)
+        test-fails _ _ _ (ap not isOpen) ∙ test-fails _ _ _ (le-ltb _ _ none)

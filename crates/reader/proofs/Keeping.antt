@@ -5,16 +5,17 @@ use mathlib.Core.Bool.{Bool, true, false}
 use mathlib.Core.List.{List, [], _∷_}
 use native.Mathlib.Omega.{arith}
 use lib.ListN.{length, drop, length-take, length-drop}
-use borrow.Author.Tests.{eqb-true, le-leb, lt-ltb, ltb-true, leb-false}
+use borrow.Author.Tests.{eqb-true, le-leb, lt-ltb, ltb-true, leb-false, not-false}
 use Rattle.fields.specs.Choice.{if_then_else_}
 use Rattle.fields.proofs.Choices.{and-holds, of-both, of-either}
 use Rattle.fields.proofs.LaidBytes.{laid-length}
+use Rattle.packet.specs.Header.{size}
 use Rattle.psi.specs.Header.{wanted}
 use Rattle.memory.specs.declared.Form.{Form}
 use Rattle.memory.specs.declared.Memory.{Memory}
 use Rattle.memory.specs.Memory.{noMemory, soundMemory, atStart}
 use Rattle.memory.proofs.Remembering.{nothing-remembered-sound, at-start-sound, after-refusal-sound}
-use Rattle.gathering_rules.specs.Checks.{checked, NotTheHosts}
+use Rattle.gathering_rules.specs.Checks.{bufferLength, checked, NotTheHosts}
 use Rattle.gathering_rules.specs.Start.{leastHeld, startRefusal}
 use Rattle.gathering_rules.proofs.Answering.{another, verdict-answers, start-refusal-answers, checked-answers}
 use Rattle.gathering_rules.proofs.Checking.{found-place}
@@ -34,7 +35,7 @@ use Rattle.reader.proofs.Soundness.{open-sound}
 -- what a step keeps
 pub record Keeps (left : Outcome) : Type 0 where
   pub soundState : sound (left .step .reader) ≡ true
-  pub lent : length (left .buffer) ≡ 1024
+  pub lent : length (left .buffer) ≡ bufferLength
   pub answers : NotTheHosts (left .step .answer)
 
 -- ---- sound states
@@ -48,7 +49,7 @@ unfolding sound soundCounts if_then_else_
 idle-sound form memory h = simp h
 
 pub opened-sound : (form : Form) (memory : Memory) (held wanted : ℕ) → soundMemory form memory ≡ true
-    → leastHeld form ≤ held → held < wanted → wanted ≤ 1024 → sound (opened form memory held wanted) ≡ true
+    → leastHeld form ≤ held → held < wanted → wanted ≤ bufferLength → sound (opened form memory held wanted) ≡ true
 unfolding sound soundCounts if_then_else_
 opened-sound form memory held wanted h least below fits = simp (h, le-leb _ _ least, lt-ltb _ _ below, le-leb _ _ fits)
 
@@ -59,7 +60,7 @@ fresh-sound form = idle-sound form noMemory (nothing-remembered-sound form)
 -- ---- the steps, from their ends to their starts
 
 whole-keeps : (form : Form) (memory : Memory) (place : Place) (section buffer : List ℕ) → soundMemory form memory ≡ true
-    → length buffer ≡ 1024
+    → length buffer ≡ bufferLength
     → Keeps (outcome (whole form memory place section) buffer)
 unfolding whole
 whole-keeps form memory place section buffer h l =
@@ -67,7 +68,7 @@ whole-keeps form memory place section buffer h l =
     (record { soundState = idle-sound form memory h; lent = l; answers = another 2 refl refl })
     (record { soundState = idle-sound form memory h; lent = l; answers = verdict-answers form section })
 
-module _ (reader : Reader) (buffer : List ℕ) (isSound : sound reader ≡ true) (lent : length buffer ≡ 1024) where
+module _ (reader : Reader) (buffer : List ℕ) (isSound : sound reader ≡ true) (lent : length buffer ≡ bufferLength) where
   -- an answer that leaves the state as it was, and one that forgets it
   same-keeps : (n : ℕ) → NotTheHosts n → Keeps (outcome (answered n reader) buffer)
   same-keeps n h = record { soundState = isSound; lent = lent; answers = h }
@@ -80,11 +81,12 @@ module _ (reader : Reader) (buffer : List ℕ) (isSound : sound reader ≡ true)
   unfolding continued
   continued-keeps bytes =
       of-either Keeps _ _ _
+      (λ isIdle. idle-keeps 15 (reader .memory) (memory-sound reader isSound) (another 15 refl refl))
       (λ isOpen.
-      let o = open-sound reader isSound isOpen in
+      let o = open-sound reader isSound (not-false _ isOpen) in
       let m = memory-sound reader isSound in
       let few : length (copied reader bytes) ≤ reader .wanted - reader .held = simp length-take (omega arith) in
-      let l : length (filled reader bytes buffer) ≡ 1024 = laid-length buffer (reader .held) (copied reader bytes) (omega arith)
+      let l : length (filled reader bytes buffer) ≡ bufferLength = laid-length buffer (reader .held) (copied reader bytes) (omega arith)
       ∙ lent in
       of-either Keeps _ _ _
       (λ wants.
@@ -96,22 +98,20 @@ module _ (reader : Reader) (buffer : List ℕ) (isSound : sound reader ≡ true)
         answers = another 1 refl refl;
       })
       (λ enough. whole-keeps (reader .form) (reader .memory) _ _ _ m l))
-      (λ isIdle. idle-keeps 15 (reader .memory) (memory-sound reader isSound) (another 15 refl refl))
 
   tail-from-keeps : (packet payload : List ℕ) → Keeps (tailFrom reader packet payload buffer)
   unfolding tailFrom
   tail-from-keeps packet payload =
-      of-either Keeps _ _ _
+      of-either Keeps _ _ _ (λ none. continued-keeps payload)
       (λ unit. of-either Keeps _ _ _ (λ none. same-keeps 0 (another 0 refl refl))
       (λ some. of-either Keeps _ _ _
       (λ beyond. idle-keeps 9 noMemory (nothing-remembered-sound (reader .form)) (another 9 refl refl))
       (λ within. continued-keeps _)))
-      (λ none. continued-keeps payload)
 
 -- ---- the head
 
 module _ (form : Form) (memory : Memory) (bytes : List ℕ) (at : ℕ) (buffer : List ℕ) (m : soundMemory form memory ≡ true)
-    (lent : length buffer ≡ 1024) (few : length bytes ≤ 188) where
+    (lent : length buffer ≡ bufferLength) (few : length bytes ≤ size) where
   begun-keeps : Starts form memory bytes → soundMemory form (atStart form memory bytes) ≡ true
       → Keeps (begun form (atStart form memory bytes) bytes at buffer)
   unfolding begun
@@ -137,8 +137,8 @@ module _ (form : Form) (memory : Memory) (bytes : List ℕ) (at : ℕ) (buffer :
         answers = start-refusal-answers form memory bytes;
       })
 
-module _ (reader : Reader) (packet buffer : List ℕ) (isSound : sound reader ≡ true) (lent : length buffer ≡ 1024) where
-  from-the-payload-keeps : (goOn : ℕ → Outcome) → ((start : ℕ) → length packet ≡ 188 → Keeps (goOn start))
+module _ (reader : Reader) (packet buffer : List ℕ) (isSound : sound reader ≡ true) (lent : length buffer ≡ bufferLength) where
+  from-the-payload-keeps : (goOn : ℕ → Outcome) → ((start : ℕ) → length packet ≡ size → Keeps (goOn start))
       → Keeps (fromThePayload reader packet buffer goOn)
   unfolding fromThePayload fromAPlace
   from-the-payload-keeps goOn keeps =
@@ -147,21 +147,20 @@ module _ (reader : Reader) (packet buffer : List ℕ) (isSound : sound reader �
       (subst (λ (t : Bool). NotTheHosts (checked t packet (length buffer) .number)) (sym isSound)
       (checked-answers packet (length buffer) lent)))
 
-  -- "the state after either step is sound whenever the state before was"
+  -- the state after either step is sound whenever the state before was
   pub tail-keeps : Keeps (tailOf reader packet buffer)
   unfolding tailOf
   tail-keeps = from-the-payload-keeps _ (λ start sized. tail-from-keeps reader buffer isSound lent packet (drop start packet))
 
-  head-from-keeps : (start : ℕ) → length packet ≡ 188 → Keeps (headFrom reader packet start buffer)
+  head-from-keeps : (start : ℕ) → length packet ≡ size → Keeps (headFrom reader packet start buffer)
   unfolding headFrom
   head-from-keeps start sized =
       let m = memory-sound reader isSound in
-      of-either Keeps _ _ _
+      of-either Keeps _ _ _ (λ none. same-keeps reader buffer isSound lent 0 (another 0 refl refl))
       (λ unit. of-either Keeps _ _ _
       (λ beyond. idle-keeps reader buffer isSound lent 9 noMemory (nothing-remembered-sound (reader .form))
       (another 9 refl refl))
       (λ within. started-keeps (reader .form) (reader .memory) _ _ buffer m lent (simp length-drop (omega arith))))
-      (λ none. same-keeps reader buffer isSound lent 0 (another 0 refl refl))
 
   pub head-keeps : Keeps (headOf reader packet buffer)
   unfolding headOf
@@ -169,7 +168,7 @@ module _ (reader : Reader) (packet buffer : List ℕ) (isSound : sound reader �
 
 -- ---- a run
 
-pub run-keeps : (reader : Reader) (buffer : List ℕ) (packets : List (List ℕ)) → sound reader ≡ true → length buffer ≡ 1024
+pub run-keeps : (reader : Reader) (buffer : List ℕ) (packets : List (List ℕ)) → sound reader ≡ true → length buffer ≡ bufferLength
     → EveryStep Keeps (run reader buffer packets)
 unfolding run worked EveryStep
 run-keeps reader buffer [] isSound lent = tt
@@ -183,8 +182,8 @@ unfolding EveryStep
 every-step P Q f [] h = tt
 every-step P Q f (w ∷ ws) h = (f _ (h .0), f _ (h .1), every-step P Q f ws (h .2))
 
--- "from a fresh state no host that hands state and buffer back untouched ever sees 5 or 25"
-pub never-5-or-25 : (form : Form) (buffer : List ℕ) (packets : List (List ℕ)) → length buffer ≡ 1024
+-- from a fresh state no host that hands state and buffer back untouched ever sees 5 or 25
+pub never-5-or-25 : (form : Form) (buffer : List ℕ) (packets : List (List ℕ)) → length buffer ≡ bufferLength
     → EveryStep (λ (left : Outcome). NotTheHosts (left .step .answer)) (run (fresh form) buffer packets)
 never-5-or-25 form buffer packets lent =
     every-step Keeps (λ (left : Outcome). NotTheHosts (left .step .answer)) (λ o k. k .answers) _

@@ -4,6 +4,7 @@ use mathlib.Core.Path.{_≡_, sym, _∙_}
 use mathlib.Core.Bool.{true}
 use borrow.Author.Tests.{leb-true, ltb-true}
 use Rattle.fields.proofs.Choices.{and-holds, test-holds}
+use Rattle.gathering_rules.specs.Checks.{bufferLength}
 use Rattle.gathering_rules.specs.Start.{leastHeld}
 use Rattle.reader.specs.State.{soundCounts, sound}
 use Rattle.reader.specs.declared.Reader.{Reader}
@@ -12,7 +13,7 @@ use Rattle.reader.specs.declared.Reader.{Reader}
 pub record OpenSound (reader : Reader) : Type 0 where
   pub least : leastHeld (reader .form) ≤ reader .held
   pub below : reader .held < reader .wanted
-  pub fits : reader .wanted ≤ 1024
+  pub fits : reader .wanted ≤ bufferLength
 
 pub open-sound : (reader : Reader) → sound reader ≡ true → reader .«is_open» ≡ true → OpenSound reader
 unfolding sound soundCounts

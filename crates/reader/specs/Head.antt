@@ -1,5 +1,6 @@
 -- The head step.
-use Prim.Native.Nat.{ℕ, _+_}
+use Prim.Native.Nat.{ℕ}
+use mathlib.Core.Bool.{not}
 use mathlib.Core.List.{List}
 use lib.ListN.{length, take, drop}
 use Rattle.fields.specs.Choice.{if_then_else_, _is_, _isAtMost_}
@@ -14,7 +15,7 @@ use Rattle.reader.specs.declared.Reader.{Reader}
 use Rattle.reader.specs.State.{idle, opened}
 use Rattle.reader.specs.Outcome.{Outcome, outcome, answered, forgotten, inPacket}
 use Rattle.reader.specs.Checks.{fromThePayload}
-use Rattle.reader.specs.Pointer.{unitStart, pointer, pointsBeyond}
+use Rattle.reader.specs.Pointer.{unitStart, pointsBeyond, target}
 use Rattle.reader.specs.Whole.{whole}
 
 -- "Wanted is 3 plus section_length. If all are here the section is whole, in the packet; else all bytes from the pointer on are copied, 1"
@@ -36,16 +37,9 @@ started form memory bytes at buffer =
 -- "No unit start: 0. The same pointer test, 9 again. From the pointer on: .."
 unfoldable pub headFrom : Reader → List ℕ → ℕ → List ℕ → Outcome
 headFrom reader packet start buffer =
-    if unitStart packet then
-    if pointsBeyond (drop start packet) then outcome (forgotten pointerBeyondRest reader) buffer
-    else
-    started
-    (reader .form)
-    (reader .memory)
-    (drop (start + 1 + pointer (drop start packet)) packet)
-    (start + 1 + pointer (drop start packet))
-    buffer
-    else outcome (answered nothingForThisStep reader) buffer
+    if not (unitStart packet) then outcome (answered nothingForThisStep reader) buffer
+    else if pointsBeyond (drop start packet) then outcome (forgotten pointerBeyondRest reader) buffer
+    else started (reader .form) (reader .memory) (drop (target packet start) packet) (target packet start) buffer
 
 unfoldable pub headOf : Reader → List ℕ → List ℕ → Outcome
 headOf reader packet buffer = fromThePayload reader packet buffer (λ start. headFrom reader packet start buffer)

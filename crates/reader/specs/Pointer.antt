@@ -1,6 +1,6 @@
--- "A payload with unit start begins with a pointer byte; 'rest' is what follows it."
-use Prim.Native.Nat.{ℕ}
-use mathlib.Core.Bool.{Bool}
+-- "A payload with unit start begins with a pointer byte"; what follows it is the rest.
+use Prim.Native.Nat.{ℕ, _+_}
+use mathlib.Core.Bool.{Bool, not}
 use mathlib.Core.List.{List, [], _∷_}
 use lib.ListN.{length, drop}
 use Rattle.fields.specs.Choice.{if_then_else_, _and_, _is_, _isAbove_, _isAtMost_}
@@ -25,10 +25,13 @@ rest payload = drop 1 payload
 abbrev pub pointsBeyond : List ℕ → Bool
 pointsBeyond payload = pointer payload isAbove 0 and length (rest payload) isAtMost pointer payload
 
+-- "the pointer's target", in the packet whose payload starts there
+abbrev pub target : List ℕ → ℕ → ℕ
+target packet start = start + 1 + pointer (drop start packet)
+
 -- what the code finds of all this in the packet whose payload starts there
 unfoldable pub pointerOf : List ℕ → ℕ → Pointer
 pointerOf packet start =
-    if unitStart packet then
-    if pointsBeyond (drop start packet) then Pointer.BeyondRest
+    if not (unitStart packet) then Pointer.NoUnitStart
+    else if pointsBeyond (drop start packet) then Pointer.BeyondRest
     else Pointer.To (pointer (drop start packet))
-    else Pointer.NoUnitStart

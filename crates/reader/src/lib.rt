@@ -4,7 +4,9 @@ ghost use mathlib.Core.Bool.{true};
 ghost use Prim.Native.Nat.{_+_, _≤_, _<_};
 ghost use lib.ListN.{length, drop};
 ghost use Rattle.fields.specs.Laid.{laid};
+ghost use Rattle.packet.specs.Header.{size};
 ghost use Rattle.psi.specs.Header.{wanted};
+ghost use Rattle.gathering_rules.specs.Checks.{bufferLength};
 ghost use Rattle.reader.specs.State.{soundCounts, sound, idle, opened, fresh};
 ghost use Rattle.reader.specs.Outcome.{outcome, inBuffer, inPacket, answered};
 ghost use Rattle.reader.specs.Pointer.{pointerOf};
@@ -154,7 +156,7 @@ impl Reader {
 
 // What the pointer says in a packet whose payload starts there.
 fn pointer_at(packet: &[u8], start: usize) -> Pointer
-    requires { ⌜ (length (now packet) ≡ 188) × (start < 188) ⌝ }
+    requires { ⌜ (length (now packet) ≡ size) × (start < size) ⌝ }
     ensures { λ r. ⌜ r ≡ pointerOf (now (packet .entry)) start ⌝ }
 {
     if (word(packet, 0, 4) >> 22) % 2 != 1 {
@@ -200,7 +202,7 @@ fn whole(form: Form, memory: Memory, place: Place, section: &[u8]) -> Step
 impl Reader {
     // The bytes continue the open section.
     fn continued(self, bytes: &[u8], buffer: &mut [u8]) -> Step
-        requires { ⌜ (length (now buffer) ≡ 1024) × (sound self ≡ true) ⌝ }
+        requires { ⌜ (length (now buffer) ≡ bufferLength) × (sound self ≡ true) ⌝ }
         ensures { λ r. ⌜ outcome r (now (buffer .exit)) ≡ continued self (now (bytes .entry)) (now (buffer .entry)) ⌝ }
     {
         let form = self.form;
@@ -225,7 +227,7 @@ impl Reader {
 
     // The tail step on a payload that starts there.
     fn tail_from(self, packet: &[u8], start: usize, buffer: &mut [u8]) -> Step
-        requires { ⌜ (length (now packet) ≡ 188) × (start < 188) × (length (now buffer) ≡ 1024) × (sound self ≡ true) ⌝ }
+        requires { ⌜ (length (now packet) ≡ size) × (start < size) × (length (now buffer) ≡ bufferLength) × (sound self ≡ true) ⌝ }
         ensures { λ r. ⌜ outcome r (now (buffer .exit)) ≡ tailFrom self (now (packet .entry)) (drop start (now (packet .entry))) (now (buffer .entry)) ⌝ }
     {
         match pointer_at(packet, start) {
@@ -270,7 +272,7 @@ fn wanted(section: &[u8]) -> u16
 
 // A section starts with these bytes, which stand at `at` in the packet: it is whole, or all of them are kept.
 fn begun(form: Form, memory: Memory, bytes: &[u8], at: usize, buffer: &mut [u8]) -> Step
-    requires { ⌜ (3 ≤ length (now bytes)) × (length (now bytes) ≤ 188) × (at ≤ 188) × (length (now buffer) ≡ 1024) ⌝ }
+    requires { ⌜ (3 ≤ length (now bytes)) × (length (now bytes) ≤ size) × (at ≤ size) × (length (now buffer) ≡ bufferLength) ⌝ }
     ensures { λ r. ⌜ outcome r (now (buffer .exit)) ≡ begun form memory (now (bytes .entry)) at (now (buffer .entry)) ⌝ }
 {
     let size = wanted(bytes);
@@ -287,7 +289,7 @@ fn begun(form: Form, memory: Memory, bytes: &[u8], at: usize, buffer: &mut [u8])
 
 // The bytes, which stand at `at` in the packet, start a section, or are refused.
 fn started(form: Form, memory: Memory, bytes: &[u8], at: usize, buffer: &mut [u8]) -> Step
-    requires { ⌜ (length (now bytes) ≤ 188) × (at ≤ 188) × (length (now buffer) ≡ 1024) ⌝ }
+    requires { ⌜ (length (now bytes) ≤ size) × (at ≤ size) × (length (now buffer) ≡ bufferLength) ⌝ }
     ensures { λ r. ⌜ outcome r (now (buffer .exit)) ≡ started form memory (now (bytes .entry)) at (now (buffer .entry)) ⌝ }
 {
     let refusal = start_refusal(form, memory, bytes);
@@ -302,7 +304,7 @@ fn started(form: Form, memory: Memory, bytes: &[u8], at: usize, buffer: &mut [u8
 impl Reader {
     // The head step on a payload that starts there.
     fn head_from(self, packet: &[u8], start: usize, buffer: &mut [u8]) -> Step
-        requires { ⌜ (length (now packet) ≡ 188) × (start < 188) × (length (now buffer) ≡ 1024) ⌝ }
+        requires { ⌜ (length (now packet) ≡ size) × (start < size) × (length (now buffer) ≡ bufferLength) ⌝ }
         ensures { λ r. ⌜ outcome r (now (buffer .exit)) ≡ headFrom self (now (packet .entry)) start (now (buffer .entry)) ⌝ }
     {
         let form = self.form;

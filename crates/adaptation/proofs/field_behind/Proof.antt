@@ -1,7 +1,7 @@
 -- `adaptation::field_behind` meets its contract: each way out gives what the tests before it choose. Assumes nothing.
 use mathlib.Core.Path.{ap}
 use borrow.Author.Needs.{needs}
-use borrow.Author.Tests.{eq-eqb, ne-eqb, le-leb, lt-leb}
+use borrow.Author.Tests.{ne-eqb, lt-ltb, le-ltb}
 use Rattle.fields.specs.Choice.{if_then_else_}
 use Rattle.answers.specs.Says.{given}
 use Rattle.adaptation.specs.AdaptationField.{wherePresent}
@@ -14,16 +14,16 @@ flags-of-requires c κs = search needs
 returns : tie.Need-returns
 unfolding wherePresent if_then_else_
 returns c =
-    simp (eq-eqb _ _ (c .before .before .if1 .taken), eq-eqb _ _ (c .before .if2 .taken))
+    simp (c .before .before .if1 .taken, c .before .if2 .taken)
     (ap given (c .flags-of .ensures))
 
 returns-2 : tie.Need-returns-2
 unfolding wherePresent if_then_else_
-returns-2 c = simp (eq-eqb _ _ (c .before .if1 .taken), ne-eqb _ _ (c .if2 .left))
+returns-2 c = simp (c .before .if1 .taken, ne-eqb _ _ (c .if2 .left))
 
 returns-3 : tie.Need-returns-3
 unfolding wherePresent if_then_else_
-returns-3 c = simp (ne-eqb _ _ (c .before .before .if1 .left), eq-eqb _ _ (c .before .if3 .taken), eq-eqb _ _ (c .if4 .taken))
+returns-3 c = simp (c .before .if3 .taken, c .if4 .taken)
 
 flags-of-requires-2 : tie.Need-flags-of-requires-2
 flags-of-requires-2 c κs = search needs
@@ -31,25 +31,12 @@ flags-of-requires-2 c κs = search needs
 returns-4 : tie.Need-returns-4
 unfolding wherePresent if_then_else_
 returns-4 c =
-    let both = c .before .before .before in
-    simp (
-      ne-eqb _ _ (both .before .if1 .left),
-      eq-eqb _ _ (both .if3 .taken),
-      ne-eqb _ _ (c .before .before .if4 .left),
-      le-leb _ _ (c .before .if5 .taken),
-    )
+    simp (c .before .before .before .if3 .taken, ne-eqb _ _ (c .before .before .if4 .left), le-ltb _ _ (c .before .if5 .taken))
     (ap given (c .flags-of2 .ensures))
 
 returns-5 : tie.Need-returns-5
 unfolding wherePresent if_then_else_
-returns-5 c =
-    let both = c .before .before in
-    simp (
-      ne-eqb _ _ (both .before .if1 .left),
-      eq-eqb _ _ (both .if3 .taken),
-      ne-eqb _ _ (c .before .if4 .left),
-      lt-leb _ _ (c .if5 .left),
-    )
+returns-5 c = simp (c .before .before .if3 .taken, ne-eqb _ _ (c .before .if4 .left), lt-ltb _ _ (c .if5 .left))
 
 returns-6 : tie.Need-returns-6
 unfolding wherePresent if_then_else_

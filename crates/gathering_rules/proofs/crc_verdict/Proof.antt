@@ -16,11 +16,11 @@ sum32-requires c κs = search needs
 
 returns-2 : tie.Need-returns-2
 unfolding crcVerdict if_then_else_
-returns-2 c = simp (le-ltb _ _ (c .before .before .if1 .left), eq-eqb _ _ (sym (c .before .sum32 .ensures) ∙ c .if2 .taken))
+returns-2 c = simp (le-ltb _ _ (c .before .before .if1 .left), ← c .before .sum32 .ensures, ne-eqb _ _ (c .if2 .taken))
 
 returns-3 : tie.Need-returns-3
 unfolding crcVerdict if_then_else_
-returns-3 c = simp (le-ltb _ _ (c .before .before .if1 .left), ← c .before .sum32 .ensures, ne-eqb _ _ (c .if2 .left))
+returns-3 c = simp (le-ltb _ _ (c .before .before .if1 .left), eq-eqb _ _ (sym (c .before .sum32 .ensures) ∙ c .if2 .left))
 
 pub crc-verdict-spec : {M : Type 1} → statement M
 crc-verdict-spec = tie.close (tie.spec returns sum32-requires returns-2 returns-3)

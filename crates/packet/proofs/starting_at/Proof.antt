@@ -7,15 +7,15 @@ use Rattle.packet.proofs.starting_at.Tie as tie
 
 returns : tie.Need-returns
 unfolding startingAt if_then_else_
-returns c = simp (lt-ltb _ _ (c .if1 .taken))
+returns c = simp (eq-eqb _ _ (c .if1 .taken))
 
 returns-2 : tie.Need-returns-2
 unfolding startingAt if_then_else_
-returns-2 c = simp (le-ltb _ _ (c .before .if1 .left), eq-eqb _ _ (c .if2 .taken))
+returns-2 c = simp (ne-eqb _ _ (c .before .if1 .left), lt-ltb _ _ (c .if2 .taken))
 
 returns-3 : tie.Need-returns-3
 unfolding startingAt if_then_else_
-returns-3 c = simp (le-ltb _ _ (c .before .if1 .left), ne-eqb _ _ (c .if2 .left))
+returns-3 c = simp (ne-eqb _ _ (c .before .if1 .left), le-ltb _ _ (c .if2 .left))
 
 pub starting-at-spec : {M : Type 1} → statement M
 starting-at-spec = tie.close (tie.spec returns returns-2 returns-3)
