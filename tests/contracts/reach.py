@@ -44,8 +44,10 @@ class Function(Item):
         super().__init__(*arguments)
         self.is_public = bool(re.match(r'\s*pub (extern "C" )?fn ', self.lines[0]))
         self.is_constant = bool(re.match(r"\s*(pub )?const ", self.lines[0]))
-        self.parameters, self.result, self.head, self.body = [], "", "", self.text
-        if not self.is_constant:
+        self.parameters, self.result, self.head = [], "", ""
+        if self.is_constant:
+            self.body = self.text.partition(" = ")[2]
+        else:
             begins = self.text.index("(", self.text.index("fn " + self.name))
             ends = closing(self.text, begins)
             contract = re.compile(r"\b(requires|ensures)\b|\{").search(self.text, ends).start()
@@ -59,11 +61,14 @@ class Function(Item):
                 self.parameters.append((name.strip(), kind.strip() or self.owner))
 
     def types(self, crate, upto):
-        """The types of the names that are bound in the body before a place of it, where they can be told."""
+        """The types of the names that are bound in the body before a place of it, where they can be told; a pattern's cannot."""
         known = {name: base(kind) for name, kind in self.parameters}
-        for bound in re.finditer(r"\blet (?:mut )?(\w+)(?:: ([^=]+?))? = ([^;]*)", self.body[:upto]):
-            name, kind, value = bound.groups()
-            known[name] = base(kind) if kind else self.type_of(crate, value.strip(), known)
+        for binder in re.finditer(r"\blet (?:mut )?(\w+)(?:: ([^=]+?))? = ([^;]*)|\b(?:let|for) ([^=;]*?) (?:=|in) |^(.*?) =>", self.body[:upto], re.M):
+            name, kind, value, *patterns = binder.groups()
+            if name:
+                known[name] = base(kind) if kind else self.type_of(crate, value.strip(), known)
+            else:
+                known.update(dict.fromkeys(re.findall(r"\w+", patterns[0] or patterns[1]), None))
         return known
 
     def type_of(self, crate, value, known):
@@ -98,7 +103,7 @@ class Function(Item):
 
     def calls(self, crate):
         """The functions that the body calls and the constants that it reads, of this crate."""
-        for call in re.finditer(r"(?<![\w.:])((?:\w+::)*)(\w+)(\(?)", self.body):
+        for call in re.finditer(r"(?<![\w:])(?<![\w)\]]\.)((?:\w+::)*)(\w+)(\(?)", self.body):
             path, name, bracket = call.groups()
             if bracket:
                 yield crate.function(self, path, name)
@@ -150,11 +155,24 @@ class Source:
 # ---- definitions
 
 
+def outside(text, marks):
+    """The text up to the first of the marks that stands in no bracket, and that mark."""
+    depth = 0
+    for i, letter in enumerate(text):
+        depth += (letter in "({[") - (letter in ")}]")
+        for mark in marks:
+            if depth == 0 and text.startswith(mark, i) and text[i + len(mark):i + len(mark) + 1] in ("", " ", "\n"):
+                return text[:i], mark
+    return text, None
+
+
 def bound(text):
     """The names that a definition's text binds: parameters of its clauses, and those of λ, of `let` and of a type."""
     names = set()
-    for clause in re.finditer(r"^(?! )(?!.* : )(.*?) =(?= |$)", text, re.M):
-        names |= set(re.findall(NAME, clause.group(1))[1:])
+    for clause in re.findall(r"^\S.*(?:\n .*)*", text, re.M):
+        head, mark = outside(clause, (" :", " ="))
+        if mark == " =":
+            names |= set(re.findall(NAME, head)[1:])
     for group in re.findall(r"λ ([^.]*)\.", text) + re.findall(r"\blet (\S+) =", text) + re.findall(r"[({]([^(){}:=]*) : ", text):
         names |= set(re.findall(NAME, group))
     return names
@@ -162,8 +180,8 @@ def bound(text):
 
 def cited(text):
     """The names in a definition's text that may be definitions: no projection, no label of a record, no name that the text binds."""
-    text = re.sub(r"(?<=[\s)])\.\S+", " ", text)
-    text = re.sub(r"([{;]\s*)«?[\w-]+»?\s*=(?= |$)", r"\1", text, flags=re.M)
+    text = re.sub(r"(?<=[\s)])\.[^\s(){};,]+", " ", text)
+    text = re.sub(r"([{;]\s*)[^\s(){};=]+\s*=(?= |$)", r"\1", text, flags=re.M)
     text = re.sub(r"^\s+pub \S+ :", " ", text, flags=re.M)
     return set(re.findall(r"(?:%s\.)?%s" % (NAME, NAME), text)) - bound(text)
 
