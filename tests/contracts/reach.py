@@ -29,6 +29,17 @@ def closing(text, at):
     return len(text) - 1
 
 
+def outside(text, marks):
+    """The text up to the first of the marks that stands in no bracket and ends a word, and that mark."""
+    depth = 0
+    for i, letter in enumerate(text):
+        depth += (letter in "({[") - (letter in ")}]")
+        for mark in marks:
+            if depth == 0 and text.startswith(mark, i) and text[i + len(mark):i + len(mark) + 1] in ("", " ", "\n"):
+                return text[:i], mark
+    return text, None
+
+
 def base(kind):
     """The name of a type, without references and lifetimes."""
     return re.sub(r"^(&|'\w+|mut\b|\s)+", "", kind).strip()
@@ -56,9 +67,12 @@ class Function(Item):
                 body = re.compile(r"\s*").match(self.text, closing(self.text, self.text.index("{", body)) + 1).end()
             self.head, self.body = self.text[contract:body], self.text[body:]
             self.result = re.sub(r"^\s*->\s*", "", self.text[ends + 1:contract]).strip()
-            for part in filter(None, map(str.strip, self.text[begins + 1:ends].split(","))):
-                name, _, kind = part.partition(":")
+            left = self.text[begins + 1:ends]
+            while left.strip():
+                parameter, _ = outside(left, ",")
+                name, _, kind = parameter.partition(":")
                 self.parameters.append((name.strip(), kind.strip() or self.owner))
+                left = left[len(parameter) + 1:]
 
     def types(self, crate, upto):
         """The types of the names that are bound in the body before a place of it, where they can be told; a pattern's cannot."""
@@ -155,17 +169,6 @@ class Source:
 # ---- definitions
 
 
-def outside(text, marks):
-    """The text up to the first of the marks that stands in no bracket, and that mark."""
-    depth = 0
-    for i, letter in enumerate(text):
-        depth += (letter in "({[") - (letter in ")}]")
-        for mark in marks:
-            if depth == 0 and text.startswith(mark, i) and text[i + len(mark):i + len(mark) + 1] in ("", " ", "\n"):
-                return text[:i], mark
-    return text, None
-
-
 def bound(text):
     """The names that a definition's text binds: parameters of its clauses, and those of λ, of `let` and of a type."""
     names = set()
@@ -199,15 +202,12 @@ class Definitions:
         self.path, self.module = path, module
         lines = path.read_text().splitlines()
         own, self.imported = "Rattle.%s.specs." % crate, {}
-        for line in lines:
-            use = re.match(r"(?:pub )?use (\S+?)(?:\.\{([^}]*)\})?(?: as (\S+))?$", line)
-            if use and use.group(1).startswith(own):
-                where = use.group(1)[len(own):]
-                for name in filter(None, map(str.strip, (use.group(2) or "").split(","))):
-                    name, _, known_as = name.partition(" as ")
-                    self.imported[known_as or name] = (where, name)
-                if use.group(3):
-                    self.imported[use.group(3) + "."] = (where, None)
+        for where, names, file_as in re.findall(r"^(?:pub )?use %s(\S+?)(?:\.\{([^}]*)\})?(?: as (\S+))?$" % own, "\n".join(lines), re.M):
+            for name in filter(None, map(str.strip, names.split(","))):
+                name, _, known_as = name.partition(" as ")
+                self.imported[known_as or name] = (where, name)
+            if file_as:
+                self.imported[file_as + "."] = (where, None)
         self.items, begun = [], None
         for i, line in enumerate(lines + ["-- end"]):
             start = re.match(r"(?:unfoldable |abbrev )*(?:pub )?(?:record |data )?(\S+)(?: [^:=]*)? :", line)
