@@ -202,7 +202,7 @@ class Definitions:
         self.path, self.module = path, module
         lines = path.read_text().splitlines()
         own, self.imported = "Rattle.%s.specs." % crate, {}
-        for where, names, file_as in re.findall(r"^(?:pub )?use %s(\S+?)(?:\.\{([^}]*)\})?(?: as (\S+))?$" % own, "\n".join(lines), re.M):
+        for where, names, file_as in re.findall(r"^(?:pub )?use %s(\S+?)(?:\.\{([^}]*)\})?(?: as (\S+))?$" % re.escape(own), "\n".join(lines), re.M):
             for name in filter(None, map(str.strip, names.split(","))):
                 name, _, known_as = name.partition(" as ")
                 self.imported[known_as or name] = (where, name)
