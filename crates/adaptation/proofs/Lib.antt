@@ -1,3 +1,2 @@
 pub mod AdaptationFields
-pub mod Cases
 pub mod Determined

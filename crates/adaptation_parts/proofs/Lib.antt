@@ -1,3 +1,2 @@
 pub mod Parts
-pub mod Cases
 pub mod Determined

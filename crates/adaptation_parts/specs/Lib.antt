@@ -1,3 +1,2 @@
 pub mod Syntax
 pub mod Parts
-pub mod Cases

@@ -1,4 +1,3 @@
 pub mod Programs
 pub mod Walk
 pub mod Determined
-pub mod Cases

@@ -1,3 +1,2 @@
 pub mod Syntax
 pub mod Programs
-pub mod Cases

@@ -2,4 +2,3 @@ pub mod Starts
 pub mod Streams
 pub mod Walk
 pub mod Determined
-pub mod Cases

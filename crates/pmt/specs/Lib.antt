@@ -1,4 +1,3 @@
 pub mod Syntax
 pub mod Start
 pub mod Streams
-pub mod Cases

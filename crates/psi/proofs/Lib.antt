@@ -1,4 +1,3 @@
 pub mod Sections
 pub mod Walks
 pub mod Determined
-pub mod Cases

@@ -3,4 +3,3 @@ pub mod Header
 pub mod Place
 pub mod Body
 pub mod Walk
-pub mod Cases

@@ -6,4 +6,3 @@ pub mod Whole
 pub mod Tail
 pub mod Head
 pub mod Run
-pub mod Cases
