@@ -10,7 +10,7 @@ use lib.Seq.{take-suc, take-all, take-suc-set}
 use borrow.Author.Tests.{lt-ltb, ltb-true, ltb-false}
 use lib.Dec.{ltb}
 use Rattle.fields.proofs.Choices.{test-holds, test-fails}
-use Rattle.text.specs.Page.{Page, paged, withByte, withText, writtenFor, written}
+use Rattle.text.specs.Page.{Page, paged, textOn, Sound, withByte, withText, writtenFor, written}
 
 -- text and then text is both as one
 pub text-append : (page : Page) (a b : List ℕ) → withText page (a ++ b) ≡ withText (withText page a) b
@@ -34,24 +34,16 @@ one-more-repeated page byte i =
 
 -- ---- nothing is lost
 
--- the text that a page has
-abbrev front : Page → List ℕ
-front page = take (page .end) (page .bytes)
-
--- a page that has a byte, and text within it
-abbrev IsPage : Page → Type 0
-IsPage page = (0 < length (page .bytes)) × (page .end ≤ length (page .bytes))
-
-module _ (page : Page) (byte : ℕ) (sound : IsPage page) where
+module _ (page : Page) (byte : ℕ) (sound : Sound page) where
   Kept : Type 0
-  Kept = IsPage (withByte page byte) × (writtenFor page ++ front (withByte page byte) ≡ front page ++ byte ∷ [])
+  Kept = Sound (withByte page byte) × (writtenFor page ++ textOn (withByte page byte) ≡ textOn page ++ byte ∷ [])
 
-  kept : (after : Page) (out : List ℕ) → withByte page byte ≡ after → writtenFor page ≡ out → IsPage after
-      → out ++ front after ≡ front page ++ byte ∷ [] → Kept
+  kept : (after : Page) (out : List ℕ) → withByte page byte ≡ after → writtenFor page ≡ out → Sound after
+      → out ++ textOn after ≡ textOn page ++ byte ∷ [] → Kept
   unfolding Kept
-  kept after out e w is-page all = (
-    subst IsPage (sym e) is-page,
-    ap₂ (λ (o : List ℕ) (p : Page). o ++ front p) w e ∙ all,
+  kept after out e w still-sound all = (
+    subst Sound (sym e) still-sound,
+    ap₂ (λ (o : List ℕ) (p : Page). o ++ textOn p) w e ∙ all,
   )
 
   by-room : (has-room : Bool) → ltb (page .end) (length (page .bytes)) ≡ has-room → Kept
@@ -70,12 +62,13 @@ module _ (page : Page) (byte : ℕ) (sound : IsPage page) where
   byte-kept = by-room (ltb (page .end) (length (page .bytes))) refl
 
 -- what is written on the way, and the text that the page has then, are the text that it had and the text that was put
-pub nothing-lost : (page : Page) (text : List ℕ) → IsPage page → written page text ++ front (withText page text) ≡ front page ++ text
+pub nothing-lost : (page : Page) (text : List ℕ) → Sound page
+    → written page text ++ textOn (withText page text) ≡ textOn page ++ text
 unfolding withText written Kept
-nothing-lost page [] sound = sym (append-nil (front page))
+nothing-lost page [] sound = sym (append-nil (textOn page))
 nothing-lost page (byte ∷ text) sound =
     let one = byte-kept page byte sound in
-    append-assoc (writtenFor page) (written (withByte page byte) text) (front (withText (withByte page byte) text))
+    append-assoc (writtenFor page) (written (withByte page byte) text) (textOn (withText (withByte page byte) text))
     ∙ ap (λ (t : List ℕ). writtenFor page ++ t) (nothing-lost (withByte page byte) text (one .0))
-    ∙ sym (append-assoc (writtenFor page) (front (withByte page byte)) text)
-    ∙ ap (λ (t : List ℕ). t ++ text) (one .1) ∙ append-assoc (front page) (byte ∷ []) text
+    ∙ sym (append-assoc (writtenFor page) (textOn (withByte page byte)) text)
+    ∙ ap (λ (t : List ℕ). t ++ text) (one .1) ∙ append-assoc (textOn page) (byte ∷ []) text

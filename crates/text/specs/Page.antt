@@ -1,7 +1,7 @@
 -- A page that text is put on.
-use Prim.Native.Nat.{ℕ, _+_}
+use Prim.Native.Nat.{ℕ, _+_, _<_, _≤_}
 use mathlib.Core.List.{List, [], _∷_, _++_}
-use lib.ListN.{length, set}
+use lib.ListN.{length, set, take}
 use Rattle.fields.specs.Choice.{if_then_else_, _isBelow_}
 
 -- how many bytes are text, from the front on, and all the bytes of the page
@@ -11,6 +11,14 @@ pub record Page : Type 0 where
 
 abbrev pub paged : ℕ → List ℕ → Page
 paged end bytes = record { end = end; bytes = bytes }
+
+-- the text that it has
+abbrev pub textOn : Page → List ℕ
+textOn page = take (page .end) (page .bytes)
+
+-- it can take a byte, and its text lies within it
+abbrev pub Sound : Page → Type 0
+Sound page = (0 < length (page .bytes)) × (page .end ≤ length (page .bytes))
 
 -- a byte more: behind the text where there is room; a full page is written, and begun anew with it; a page of no bytes takes none
 unfoldable pub withByte : Page → ℕ → Page

@@ -5,8 +5,8 @@
 use libc::STDOUT_FILENO;
 ghost use mathlib.Core.Path.{_≡_};
 ghost use Prim.Native.Nat.{_-_};
-ghost use lib.ListN.{take, replicate};
-ghost use Rattle.text.specs.Page.{paged, withByte, withText};
+ghost use lib.ListN.{replicate};
+ghost use Rattle.text.specs.Page.{paged, textOn, withByte, withText};
 ghost use Rattle.text.specs.Digits.{blank, zeroCharacter, digits};
 ghost use Rattle.text.specs.Padded.{filledBefore, filledBehind};
 
@@ -62,7 +62,7 @@ pub fn put_hexadecimal(page: &mut [u8], end: usize, n: u64, width: usize) -> usi
 
 // The text that the page has: its first `end` bytes, all where it has fewer.
 pub fn front(page: &[u8], end: usize) -> &[u8]
-    ensures { λ r. ⌜ now r ≡ take end (now (page .entry)) ⌝ }
+    ensures { λ r. ⌜ now r ≡ textOn (paged end (now (page .entry))) ⌝ }
 {
     if page.len() < end {
         return page;
