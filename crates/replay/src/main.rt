@@ -13,6 +13,7 @@ mod walks;
 use arguments::Fault;
 use arguments::OVER;
 use arguments::between;
+use arguments::line_at;
 use arguments::line_of;
 use arguments::next;
 use arguments::part;
@@ -29,7 +30,7 @@ use reader::Form;
 use reader::Reader;
 ghost use Prim.Native.Nat.{_+_, _≤_, _<_};
 ghost use lib.ListN.{length};
-ghost use Rattle.replay.specs.Within.{Within, Sound};
+ghost use Rattle.replay.specs.Within.{Within};
 
 // The longest line: the largest buffer and packet, two digits for a byte, and room for the words and numbers.
 const LINE: usize = 524800;
@@ -78,8 +79,8 @@ fn answer_next(
     buffer: &mut [u8; ROOM],
     page: &mut [u8; PAGE],
 ) -> Run
-    requires { ⌜ Sound run ⌝ }
-    ensures { λ r. ⌜ Sound r ⌝ }
+    requires { ⌜ Within run ⌝ }
+    ensures { λ r. ⌜ Within r ⌝ }
 {
     let from = run.from;
     let to = run.to;
@@ -111,8 +112,8 @@ fn line_end(room: &[u8], from: usize, to: usize) -> usize
 // Writes the answers, and reads more behind the bytes that have come. Where nothing more comes, or there is no room for it, the line
 // that has no end is the last.
 fn read_on(run: Run, room: &mut [u8; LINE], page: &mut [u8; PAGE]) -> Run
-    requires { ⌜ Sound run ⌝ }
-    ensures { λ r. ⌜ Sound r ⌝ }
+    requires { ⌜ Within run ⌝ }
+    ensures { λ r. ⌜ Within r ⌝ }
 {
     let kept = written(run.kept, page);
     let from = run.from;
@@ -130,10 +131,7 @@ fn read_on(run: Run, room: &mut [u8; LINE], page: &mut [u8; PAGE]) -> Run
     }
 }
 
-fn written(kept: Kept, page: &[u8; PAGE]) -> Kept
-    requires { ⌜ Within kept ⌝ }
-    ensures { λ r. ⌜ Within r ⌝ }
-{
+fn written(kept: Kept, page: &[u8; PAGE]) -> Kept {
     io::write_all(STDOUT_FILENO, text::front(page, kept.end));
     kept.with_end(0)
 }
@@ -184,10 +182,7 @@ fn answer_line(
     packet: &mut [u8; ROOM],
     buffer: &mut [u8; ROOM],
     page: &mut [u8; PAGE],
-) -> Kept
-    requires { ⌜ Within kept ⌝ }
-    ensures { λ r. ⌜ Within r ⌝ }
-{
+) -> Kept {
     if is_comment(line) {
         let end = text::put_text(page, kept.end, line);
         return ended(kept.with_end(end), page);
@@ -203,34 +198,27 @@ fn is_comment(line: &[u8]) -> bool {
     line[0] == b'#'
 }
 
-fn ended(kept: Kept, page: &mut [u8; PAGE]) -> Kept
-    requires { ⌜ Within kept ⌝ }
-    ensures { λ r. ⌜ Within r ⌝ }
-{
+fn ended(kept: Kept, page: &mut [u8; PAGE]) -> Kept {
     kept.with_end(text::put_text(page, kept.end, b"\n"))
 }
 
 // A line that is no request is answered with what is wrong with it, and nothing is kept behind it.
-fn refused(fault: u8, page: &mut [u8; PAGE], start: usize) -> Kept
-    ensures { λ r. ⌜ Within r ⌝ }
-{
-    let end = text::put_text(page, start, b"not a request: ");
-    kept::anew(Form::Compact, 0, put_fault(fault, page, end))
-}
-
-fn put_fault(fault: u8, page: &mut [u8; PAGE], end: usize) -> usize {
-    match fault {
-        Fault::NO_CALL => text::put_text(page, end, b"there is no such call"),
-        Fault::NO_ARGUMENT => text::put_text(page, end, b"there is no such argument"),
-        Fault::MISSING => text::put_text(page, end, b"an argument is missing"),
-        Fault::TOO_MANY => text::put_text(page, end, b"there are too many arguments"),
-        Fault::NO_NUMBER => text::put_text(page, end, b"a number is not decimal"),
-        Fault::NUMBER_TOO_LARGE => text::put_text(page, end, b"a number is too large"),
-        Fault::NO_BYTES => text::put_text(page, end, b"bytes are not pairs of digits"),
-        Fault::TOO_MANY_BYTES => text::put_text(page, end, b"there are too many bytes"),
-        Fault::NO_END => text::put_text(page, end, b"the line has no end"),
-        _ => text::put_text(page, end, b"the line is too long"),
-    }
+fn refused(fault: u8, page: &mut [u8; PAGE], start: usize) -> Kept {
+    // in the order of their numbers
+    let faults = b"\n\
+        there is no such call\n\
+        there is no such argument\n\
+        an argument is missing\n\
+        there are too many arguments\n\
+        a number is not decimal\n\
+        a number is too large\n\
+        bytes are not pairs of digits\n\
+        there are too many bytes\n\
+        the line has no end\n\
+        the line is too long\n";
+    let before = text::put_text(page, start, b"not a request: ");
+    let end = text::put_text(page, before, line_at(faults, fault));
+    kept::anew(Form::Compact, 0, end)
 }
 
 fn answer(
@@ -239,10 +227,7 @@ fn answer(
     packet: &mut [u8; ROOM],
     buffer: &mut [u8; ROOM],
     page: &mut [u8; PAGE],
-) -> Kept
-    requires { ⌜ Within kept ⌝ }
-    ensures { λ r. ⌜ Within r ⌝ }
-{
+) -> Kept {
     let name = part(line, 0, b' ');
     let at = next(line, 0, b' ');
     let call = gathering::call_of(name);
@@ -266,10 +251,7 @@ fn answer_reader(
     packet: &mut [u8; ROOM],
     buffer: &mut [u8; ROOM],
     page: &mut [u8; PAGE],
-) -> Kept
-    requires { ⌜ Within kept ⌝ }
-    ensures { λ r. ⌜ Within r ⌝ }
-{
+) -> Kept {
     let given = gathering::given_all(line, start, kept, packet, buffer);
     if given.fault != Fault::NONE {
         return refused(given.fault, page, kept.end);
@@ -285,10 +267,7 @@ fn answer_feed(
     packet: &mut [u8; ROOM],
     buffer: &mut [u8; ROOM],
     page: &mut [u8; PAGE],
-) -> Kept
-    requires { ⌜ Within kept ⌝ }
-    ensures { λ r. ⌜ Within r ⌝ }
-{
+) -> Kept {
     let bytes = read_bytes(line, start, packet);
     let fault = of_the_last(bytes.at, bytes.fault);
     if fault != Fault::NONE {
@@ -315,9 +294,7 @@ fn answer_begin(
     kept: Kept,
     buffer: &mut [u8; ROOM],
     page: &mut [u8; PAGE],
-) -> Kept
-    ensures { λ r. ⌜ Within r ⌝ }
-{
+) -> Kept {
     let mut form = [0u64; 1];
     let cursor = read_numbers(line, start, &[2], &mut form);
     let fault = of_the_last(cursor.at, cursor.fault);
@@ -337,10 +314,7 @@ fn clear(buffer: &mut [u8; ROOM]) {
     }
 }
 
-fn answer_follows(line: &[u8], start: usize, kept: Kept, page: &mut [u8; PAGE]) -> Kept
-    requires { ⌜ Within kept ⌝ }
-    ensures { λ r. ⌜ Within r ⌝ }
-{
+fn answer_follows(line: &[u8], start: usize, kept: Kept, page: &mut [u8; PAGE]) -> Kept {
     let mut pair = [0u64; 2];
     let cursor = read_numbers(line, start, &[255, 255], &mut pair);
     let fault = of_the_last(cursor.at, cursor.fault);
@@ -359,10 +333,7 @@ fn answer_calls(
     kept: Kept,
     packet: &mut [u8; ROOM],
     page: &mut [u8; PAGE],
-) -> Kept
-    requires { ⌜ Within kept ⌝ }
-    ensures { λ r. ⌜ Within r ⌝ }
-{
+) -> Kept {
     let takes = calls::taken_by(list);
     if takes == Takes::NO_CALL {
         return refused(Fault::NO_CALL, page, kept.end);
@@ -386,10 +357,7 @@ fn answer_bytes(
     kept: Kept,
     packet: &mut [u8; ROOM],
     page: &mut [u8; PAGE],
-) -> Kept
-    requires { ⌜ Within kept ⌝ }
-    ensures { λ r. ⌜ Within r ⌝ }
-{
+) -> Kept {
     let bytes = read_bytes(line, start, packet);
     let fault = of_the_last(bytes.at, bytes.fault);
     if fault != Fault::NONE {
@@ -404,10 +372,13 @@ fn answer_bytes(
     )
 }
 
-fn put_calls(list: &[u8], position: usize, kept: Kept, packet: &[u8], page: &mut [u8; PAGE]) -> Kept
-    requires { ⌜ Within kept ⌝ }
-    ensures { λ r. ⌜ Within r ⌝ }
-{
+fn put_calls(
+    list: &[u8],
+    position: usize,
+    kept: Kept,
+    packet: &[u8],
+    page: &mut [u8; PAGE],
+) -> Kept {
     let bytes = text::front(packet, kept.packet_size);
     let end = calls::put_all(list, position, bytes, page, kept.end);
     kept.with_end(end)

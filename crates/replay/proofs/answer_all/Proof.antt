@@ -1,11 +1,11 @@
--- `answer_all` is safe and ends: its turns are counted down, and what has come and is kept lies within the rooms. Assumes nothing.
-use Rattle.replay.specs.Within.{Sound}
+-- `answer_all` is safe and ends: its turns are counted down, and what has come lies within the room. Assumes nothing.
+use Rattle.replay.specs.Within.{Within}
 use borrow.Author.Needs.{needs}
 use Rattle.replay.proofs.answer_all.Statement.{statement}
 use Rattle.replay.proofs.answer_all.Tie as tie
 
 abbrev Inv-loop : tie.InvT-loop
-Inv-loop room₀ packet₀ buffer₀ page₀ run₀ turns₀ room packet buffer page run turns = Sound run
+Inv-loop room₀ packet₀ buffer₀ page₀ run₀ turns₀ room packet buffer page run turns = Within run
 
 abbrev μ-loop : tie.MeasureT-loop
 μ-loop room₀ packet₀ buffer₀ page₀ run₀ turns₀ room packet buffer page run turns = turns

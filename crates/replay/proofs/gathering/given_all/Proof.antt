@@ -1,11 +1,10 @@
--- `gathering::given_all` is safe and ends: its turns are counted down, and what is kept lies within the rooms. Assumes nothing.
-use Rattle.replay.specs.Within.{Within}
+-- `gathering::given_all` is safe and ends: its turns are counted down. Assumes nothing.
 use borrow.Author.Needs.{needs}
 use Rattle.replay.proofs.gathering.given_all.Statement.{statement}
 use Rattle.replay.proofs.gathering.given_all.Tie as tie
 
 abbrev Inv-loop : tie.InvT-loop
-Inv-loop line start packet₀ buffer₀ given₀ turns₀ packet buffer given turns = Within (given .kept)
+Inv-loop line start packet₀ buffer₀ given₀ turns₀ packet buffer given turns = Unit {0}
 
 abbrev μ-loop : tie.MeasureT-loop
 μ-loop line start packet₀ buffer₀ given₀ turns₀ packet buffer given turns = turns
