@@ -3,6 +3,10 @@
 use fields::word;
 use libc::STDIN_FILENO;
 use libc::STDOUT_FILENO;
+use text::front;
+use text::put_decimal;
+use text::put_hexadecimal;
+use text::put_text;
 ghost use mathlib.Core.Path.{_≡_};
 ghost use Prim.Native.Nat.{_+_, _≤_, _<_};
 ghost use lib.ListN.{length};
@@ -16,6 +20,9 @@ struct Tally {
 }
 
 const ROOM: usize = 131072;
+
+// Room for a line.
+const LINE: usize = 128;
 
 fn main() {
     let mut list = [0u8; ROOM];
@@ -90,30 +97,36 @@ fn compare(vector: usize, found: u64, listed: u64) -> usize
     if found == listed {
         return 0;
     }
-    say(b"Vector ");
-    say_number(vector);
-    say(b": ");
-    io::print_hex(STDOUT_FILENO, found, 8);
-    say(b", and the list has ");
-    io::print_hex(STDOUT_FILENO, listed, 8);
-    say(b".\n");
+    say_difference(vector as u64, found, listed);
     1
+}
+
+fn say_difference(vector: u64, found: u64, listed: u64) {
+    let mut room = [0u8; LINE];
+    let line: &mut [u8] = &mut room;
+    let mut end = put_text(line, 0, b"Vector ");
+    end = put_decimal(line, end, vector, 0);
+    end = put_text(line, end, b": ");
+    end = put_hexadecimal(line, end, found, 8);
+    end = put_text(line, end, b", and the list has ");
+    end = put_hexadecimal(line, end, listed, 8);
+    end = put_text(line, end, b".\n");
+    say(front(line, end));
 }
 
 fn say_tally(tally: Tally) {
     if tally.cut_short {
         say(b"The list is cut short.\n");
     }
-    say_number(tally.compared);
-    say(b" compared, ");
-    say_number(tally.differ);
-    say(b" differ.\n");
+    let mut room = [0u8; LINE];
+    let line: &mut [u8] = &mut room;
+    let mut end = put_decimal(line, 0, tally.compared as u64, 0);
+    end = put_text(line, end, b" compared, ");
+    end = put_decimal(line, end, tally.differ as u64, 0);
+    end = put_text(line, end, b" differ.\n");
+    say(front(line, end));
 }
 
 fn say(text: &[u8]) {
     io::write_all(STDOUT_FILENO, text);
-}
-
-fn say_number(n: usize) {
-    io::print_decimal(STDOUT_FILENO, n as u64);
 }

@@ -45,10 +45,11 @@ pub struct Bytes {
     pub fault: u8,
 }
 
-// A number that was read.
-struct Number {
-    value: u64,
-    fault: u8,
+// A number that was read, and the cursor behind it.
+pub struct Number {
+    pub value: u64,
+    pub at: usize,
+    pub fault: u8,
 }
 
 // What the text has from there on, up to the next mark.
@@ -141,15 +142,15 @@ pub fn read_numbers(line: &[u8], start: usize, limits: &[u64], values: &mut [u64
     let mut at = start;
     let mut i = 0;
     while i < limits.len() && i < values.len() {
-        if OVER <= at {
-            return faulty(Fault::MISSING);
-        }
-        let number = number_of(part(line, at, b' '), limits[i]);
+        let number = read_number(line, at, limits[i]);
         if number.fault != Fault::NONE {
-            return faulty(number.fault);
+            return Cursor {
+                at: OVER,
+                fault: number.fault,
+            };
         }
         values[i] = number.value;
-        at = next(line, at, b' ');
+        at = number.at;
         i += 1;
     }
     Cursor {
@@ -158,22 +159,34 @@ pub fn read_numbers(line: &[u8], start: usize, limits: &[u64], values: &mut [u64
     }
 }
 
-pub fn faulty(fault: u8) -> Cursor {
-    Cursor { at: OVER, fault }
-}
-
-fn number_of(digits: &[u8], limit: u64) -> Number {
-    let number = decimal(digits);
+// Reads a number, not above the limit.
+pub fn read_number(line: &[u8], start: usize, limit: u64) -> Number {
+    if OVER <= start {
+        return no_number(Fault::MISSING);
+    }
+    let number = decimal(part(line, start, b' '));
     if number.value > limit {
         return no_number(Fault::NUMBER_TOO_LARGE);
     }
-    number
+    if number.fault != Fault::NONE {
+        return number;
+    }
+    Number {
+        value: number.value,
+        at: next(line, start, b' '),
+        fault: Fault::NONE,
+    }
 }
 
 fn no_number(fault: u8) -> Number {
-    Number { value: 0, fault }
+    Number {
+        value: 0,
+        at: OVER,
+        fault,
+    }
 }
 
+// The number that digits are.
 fn decimal(digits: &[u8]) -> Number {
     if digits.len() == 0 {
         return no_number(Fault::NO_NUMBER);
@@ -193,6 +206,7 @@ fn decimal(digits: &[u8]) -> Number {
     }
     Number {
         value,
+        at: OVER,
         fault: Fault::NONE,
     }
 }

@@ -7,28 +7,22 @@ mod gathering;
 mod kept;
 mod line;
 mod packets;
+mod requests;
 mod sections;
 mod walks;
 
 use arguments::Fault;
-use arguments::OVER;
 use arguments::between;
-use arguments::line_at;
-use arguments::line_of;
-use arguments::next;
-use arguments::part;
-use arguments::read_bytes;
-use arguments::read_numbers;
-use calls::Takes;
 use kept::Kept;
 use kept::ROOM;
 use libc::STDIN_FILENO;
 use libc::STDOUT_FILENO;
-use line::GIVEN;
 use line::PAGE;
 use reader::Form;
-use reader::Reader;
-ghost use Prim.Native.Nat.{_+_, _≤_, _<_};
+use requests::answer_line;
+use requests::ended;
+use requests::refused;
+ghost use Prim.Native.Nat.{_+_, _≤_};
 ghost use lib.ListN.{length};
 ghost use Rattle.replay.specs.Within.{Within};
 
@@ -174,212 +168,4 @@ fn end(left: usize, page: &mut [u8; PAGE]) {
     };
     let kept = ended(refused(fault, page, 0), page);
     written(kept, page);
-}
-
-fn answer_line(
-    line: &[u8],
-    kept: Kept,
-    packet: &mut [u8; ROOM],
-    buffer: &mut [u8; ROOM],
-    page: &mut [u8; PAGE],
-) -> Kept {
-    if is_comment(line) {
-        let end = text::put_text(page, kept.end, line);
-        return ended(kept.with_end(end), page);
-    }
-    ended(answer(line, kept, packet, buffer, page), page)
-}
-
-// A comment is its own answer.
-fn is_comment(line: &[u8]) -> bool {
-    if line.len() == 0 {
-        return false;
-    }
-    line[0] == b'#'
-}
-
-fn ended(kept: Kept, page: &mut [u8; PAGE]) -> Kept {
-    kept.with_end(text::put_text(page, kept.end, b"\n"))
-}
-
-// A line that is no request is answered with what is wrong with it, and nothing is kept behind it.
-fn refused(fault: u8, page: &mut [u8; PAGE], start: usize) -> Kept {
-    // in the order of their numbers
-    let faults = b"\n\
-        there is no such call\n\
-        there is no such argument\n\
-        an argument is missing\n\
-        there are too many arguments\n\
-        a number is not decimal\n\
-        a number is too large\n\
-        bytes are not pairs of digits\n\
-        there are too many bytes\n\
-        the line has no end\n\
-        the line is too long\n";
-    let before = text::put_text(page, start, b"not a request: ");
-    let end = text::put_text(page, before, line_at(faults, fault));
-    kept::anew(Form::Compact, 0, end)
-}
-
-fn answer(
-    line: &[u8],
-    kept: Kept,
-    packet: &mut [u8; ROOM],
-    buffer: &mut [u8; ROOM],
-    page: &mut [u8; PAGE],
-) -> Kept {
-    let name = part(line, 0, b' ');
-    let at = next(line, 0, b' ');
-    let call = gathering::call_of(name);
-    if call < gathering::CALLS {
-        return answer_reader(call, line, at, kept, packet, buffer, page);
-    }
-    match line_of(name, b"feed\nbegin\ncounter_follows\n") {
-        0 => answer_feed(line, at, kept, packet, buffer, page),
-        1 => answer_begin(line, at, kept, buffer, page),
-        2 => answer_follows(line, at, kept, page),
-        _ => answer_calls(name, line, at, kept, packet, page),
-    }
-}
-
-// A call of the reader: what it gives takes the place of what is kept.
-fn answer_reader(
-    call: u64,
-    line: &[u8],
-    start: usize,
-    kept: Kept,
-    packet: &mut [u8; ROOM],
-    buffer: &mut [u8; ROOM],
-    page: &mut [u8; PAGE],
-) -> Kept {
-    let given = gathering::given_all(line, start, kept, packet, buffer);
-    if given.fault != Fault::NONE {
-        return refused(given.fault, page, kept.end);
-    }
-    gathering::worked(call, given, packet, buffer, page)
-}
-
-// A packet for the reader that is kept.
-fn answer_feed(
-    line: &[u8],
-    start: usize,
-    kept: Kept,
-    packet: &mut [u8; ROOM],
-    buffer: &mut [u8; ROOM],
-    page: &mut [u8; PAGE],
-) -> Kept {
-    let bytes = read_bytes(line, start, packet);
-    let fault = of_the_last(bytes.at, bytes.fault);
-    if fault != Fault::NONE {
-        return refused(fault, page, kept.end);
-    }
-    gathering::fed(kept.with_packet(bytes.size, kept.end), packet, buffer, page)
-}
-
-// What is wrong with the last argument, or with what stands behind it.
-fn of_the_last(behind: usize, fault: u8) -> u8 {
-    if fault != Fault::NONE {
-        return fault;
-    }
-    if behind != OVER {
-        return Fault::TOO_MANY;
-    }
-    Fault::NONE
-}
-
-// A fresh reader of a form, with a buffer of zeros.
-fn answer_begin(
-    line: &[u8],
-    start: usize,
-    kept: Kept,
-    buffer: &mut [u8; ROOM],
-    page: &mut [u8; PAGE],
-) -> Kept {
-    let mut form = [0u64; 1];
-    let cursor = read_numbers(line, start, &[2], &mut form);
-    let fault = of_the_last(cursor.at, cursor.fault);
-    if fault != Fault::NONE {
-        return refused(fault, page, kept.end);
-    }
-    clear(buffer);
-    let end = line::put_numbers(page, kept.end, &[GIVEN]);
-    kept::anew(gathering::form_of(form[0]), Reader::BUFFER_SIZE, end)
-}
-
-fn clear(buffer: &mut [u8; ROOM]) {
-    let mut i = 0;
-    while i < Reader::BUFFER_SIZE {
-        buffer[i] = 0;
-        i += 1;
-    }
-}
-
-fn answer_follows(line: &[u8], start: usize, kept: Kept, page: &mut [u8; PAGE]) -> Kept {
-    let mut pair = [0u64; 2];
-    let cursor = read_numbers(line, start, &[255, 255], &mut pair);
-    let fault = of_the_last(cursor.at, cursor.fault);
-    if fault != Fault::NONE {
-        return refused(fault, page, kept.end);
-    }
-    let end = packets::put_follows(pair[0], pair[1], page, kept.end);
-    kept.with_end(end)
-}
-
-// The calls that only read, on bytes that are the packet from here on.
-fn answer_calls(
-    list: &[u8],
-    line: &[u8],
-    start: usize,
-    kept: Kept,
-    packet: &mut [u8; ROOM],
-    page: &mut [u8; PAGE],
-) -> Kept {
-    let takes = calls::taken_by(list);
-    if takes == Takes::NO_CALL {
-        return refused(Fault::NO_CALL, page, kept.end);
-    }
-    if takes == Takes::BYTES {
-        return answer_bytes(list, 0, line, start, kept, packet, page);
-    }
-    let mut position = [0u64; 1];
-    let cursor = read_numbers(line, start, &[u64::MAX], &mut position);
-    if cursor.fault != Fault::NONE {
-        return refused(cursor.fault, page, kept.end);
-    }
-    answer_bytes(list, position[0], line, cursor.at, kept, packet, page)
-}
-
-fn answer_bytes(
-    list: &[u8],
-    position: u64,
-    line: &[u8],
-    start: usize,
-    kept: Kept,
-    packet: &mut [u8; ROOM],
-    page: &mut [u8; PAGE],
-) -> Kept {
-    let bytes = read_bytes(line, start, packet);
-    let fault = of_the_last(bytes.at, bytes.fault);
-    if fault != Fault::NONE {
-        return refused(fault, page, kept.end);
-    }
-    put_calls(
-        list,
-        position as usize,
-        kept.with_packet(bytes.size, kept.end),
-        packet,
-        page,
-    )
-}
-
-fn put_calls(
-    list: &[u8],
-    position: usize,
-    kept: Kept,
-    packet: &[u8],
-    page: &mut [u8; PAGE],
-) -> Kept {
-    let bytes = text::front(packet, kept.packet_size);
-    let end = calls::put_all(list, position, bytes, page, kept.end);
-    kept.with_end(end)
 }

@@ -1,12 +1,12 @@
 // The lines of the report. The first word of a line says what it is; the number behind `section`, `refused` and `skipped` is the
 // packet's, counted from 0. What answers how many writes failed answers it for its first line: an output that fails goes on failing.
+use crate::line_forms::put;
+use crate::line_forms::put_named;
 use crate::names::put_with_meaning;
 use crate::names::put_with_stream_type;
 use crate::names::put_with_table;
 use crate::names::table_line;
 use crate::names::type_line;
-use crate::text::put;
-use crate::text::put_named;
 use crate::words::FormLine;
 use answers::Answer;
 use answers::Refusal;

@@ -1,9 +1,9 @@
 // Prints the sections of one PID of a transport stream, as they come.
 // `sections --help` says how it is asked and what it prints.
 mod input;
+mod line_forms;
 mod lines;
 mod names;
-mod text;
 mod totals;
 mod usage;
 mod words;
@@ -322,7 +322,7 @@ fn tell<'a>(step: Step, words: Words, packet: &'a [u8], buffer: &'a [u8], sums: 
 fn deliver(section: &[u8], words: Words, sums: &mut [u64]) {
     let failed = lines::put_section(totals::of(sums, totals::PACKETS), words.form, section);
     if words.hex {
-        text::put_bytes(section);
+        line_forms::put_bytes(section);
     }
     totals::add(sums, totals::NOT_WRITTEN, failed);
     totals::add(sums, Answer::DELIVERED as usize, 1);

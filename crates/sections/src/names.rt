@@ -1,5 +1,5 @@
 // What numbers mean, in words. Each call writes a form in which the name has a place.
-use crate::text::put_named;
+use crate::line_forms::put_named;
 
 // With the name of a table of ISO/IEC 13818-1, - for any other, and of the time when it holds.
 pub fn put_with_table(form: &[u8], numbers: &[u64]) -> u64 {

@@ -1,6 +1,6 @@
 // How often a step gave each answer, by the answer's number; behind them the other totals.
+use crate::line_forms::put;
 use crate::names::put_with_meaning;
-use crate::text::put;
 use answers::Answer;
 
 pub const REFUSED: usize = 27;

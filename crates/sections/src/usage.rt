@@ -1,5 +1,5 @@
 // How the program is asked, and what it says where it is asked wrongly.
-use crate::text::line_at;
+use crate::line_forms::line_at;
 use libc::STDERR_FILENO;
 use libc::STDOUT_FILENO;
 

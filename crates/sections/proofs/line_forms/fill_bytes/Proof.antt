@@ -1,16 +1,16 @@
--- `text::fill_bytes` is safe and ends: each turn leaves fewer bytes, and the page keeps its length. Assumes nothing.
+-- `line_forms::fill_bytes` is safe and ends: each turn leaves fewer bytes, and the page keeps its length. Assumes nothing.
 use mathlib.Core.Path.{_≡_}
 use Prim.Native.Nat.{_-_, _≤_}
 use lib.ListN.{length}
 use borrow.Author.Needs.{needs}
-use Rattle.sections.proofs.text.fill_bytes.Statement.{statement}
-use Rattle.sections.proofs.text.fill_bytes.Tie as tie
+use Rattle.sections.proofs.line_forms.fill_bytes.Statement.{statement}
+use Rattle.sections.proofs.line_forms.fill_bytes.Tie as tie
 
 abbrev Inv-loop : tie.InvT-loop
-Inv-loop page₀ bytes end₀ i₀ page end i = (i ≤ length bytes) × (length page ≡ length page₀)
+Inv-loop page₀ bytes end₀ i₀ line-end page end i = (i ≤ length bytes) × (length page ≡ length page₀)
 
 abbrev μ-loop : tie.MeasureT-loop
-μ-loop page₀ bytes end₀ i₀ page end i = length bytes - i
+μ-loop page₀ bytes end₀ i₀ line-end page end i = length bytes - i
 
 loop-holds : tie.Need-loop-holds Inv-loop μ-loop
 loop-holds c = search needs
@@ -30,8 +30,11 @@ loop-less c = search needs
 loop-again : tie.Need-loop-again Inv-loop μ-loop
 loop-again c = search needs
 
-fill-byte-requires : tie.Need-fill-byte-requires Inv-loop μ-loop
-fill-byte-requires c κs = search needs
+slice-aggregate-put-text : tie.Need-slice-aggregate-put-text Inv-loop μ-loop
+slice-aggregate-put-text c = search needs
+
+put-text-requires : tie.Need-put-text-requires Inv-loop μ-loop
+put-text-requires c κs = search needs
 
 same-length : tie.Need-same-length Inv-loop μ-loop
 same-length c = search needs
@@ -51,6 +54,7 @@ fill-bytes-spec =
     add-i
     loop-less
     loop-again
-    fill-byte-requires
+    slice-aggregate-put-text
+    put-text-requires
     same-length
     returns)

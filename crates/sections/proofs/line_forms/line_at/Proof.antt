@@ -1,10 +1,10 @@
--- `text::line_at` is safe and ends: each turn leaves fewer bytes, and the line lies within them. Assumes nothing.
+-- `line_forms::line_at` is safe and ends: each turn leaves fewer bytes, and the line lies within them. Assumes nothing.
 use Prim.Native.Nat.{_-_, _≤_}
 use lib.ListN.{length}
 use mathlib.Core.Logic.{⊎-elim}
 use borrow.Author.Needs.{needs}
-use Rattle.sections.proofs.text.line_at.Statement.{statement}
-use Rattle.sections.proofs.text.line_at.Tie as tie
+use Rattle.sections.proofs.line_forms.line_at.Statement.{statement}
+use Rattle.sections.proofs.line_forms.line_at.Tie as tie
 
 abbrev Inv-loop : tie.InvT-loop
 Inv-loop lines line passed₀ from₀ to₀ passed from to = (passed ≤ to) × (from ≤ to) × (to ≤ length lines)

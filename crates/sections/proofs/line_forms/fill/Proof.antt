@@ -1,11 +1,11 @@
--- `text::fill` is safe and ends: each turn leaves less of the form, and the page keeps its length. Assumes nothing.
+-- `line_forms::fill` is safe and ends: each turn leaves less of the form, and the page keeps its length. Assumes nothing.
 use mathlib.Core.Path.{_≡_}
 use Prim.Native.Nat.{_-_, _≤_}
 use lib.ListN.{length}
 use mathlib.Core.Logic.{⊎-elim}
 use borrow.Author.Needs.{needs}
-use Rattle.sections.proofs.text.fill.Statement.{statement}
-use Rattle.sections.proofs.text.fill.Tie as tie
+use Rattle.sections.proofs.line_forms.fill.Statement.{statement}
+use Rattle.sections.proofs.line_forms.fill.Tie as tie
 
 abbrev Inv-loop : tie.InvT-loop
 Inv-loop page₀ before form numbers names end₀ i₀ used₀ page end i used = (used ≤ i) × (i ≤ length form) × (length page ≡ length page₀)
@@ -34,8 +34,8 @@ fill-place-requires c κs = search needs
 add-used : tie.Need-add-used Inv-loop μ-loop
 add-used c = search needs
 
-fill-repeated-requires : tie.Need-fill-repeated-requires Inv-loop μ-loop
-fill-repeated-requires c κs = search needs
+put-repeated-requires : tie.Need-put-repeated-requires Inv-loop μ-loop
+put-repeated-requires c κs = search needs
 
 add-i : tie.Need-add-i Inv-loop μ-loop
 add-i c = search needs
@@ -65,7 +65,7 @@ fill-spec =
     number-at-requires
     fill-place-requires
     add-used
-    fill-repeated-requires
+    put-repeated-requires
     add-i
     loop-less
     loop-again

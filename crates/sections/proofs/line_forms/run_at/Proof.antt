@@ -1,9 +1,9 @@
--- `text::run_at` ends, and the run lies within the form: each turn leaves fewer bytes. Assumes nothing.
+-- `line_forms::run_at` ends, and the run lies within the form: each turn leaves fewer bytes. Assumes nothing.
 use Prim.Native.Nat.{_-_, _≤_, _<_}
 use lib.ListN.{length}
 use borrow.Author.Needs.{needs}
-use Rattle.sections.proofs.text.run_at.Statement.{statement}
-use Rattle.sections.proofs.text.run_at.Tie as tie
+use Rattle.sections.proofs.line_forms.run_at.Statement.{statement}
+use Rattle.sections.proofs.line_forms.run_at.Tie as tie
 
 abbrev Inv-loop : tie.InvT-loop
 Inv-loop form from end₀ end = (from < end) × (end ≤ length form)

@@ -1,5 +1,11 @@
-// Lines of text, written to standard output as they are made.
+// The forms of lines: text with places for numbers and names. They are written to standard output as they are made.
 use libc::STDOUT_FILENO;
+use text::front;
+use text::put_decimal;
+use text::put_decimal_left;
+use text::put_hexadecimal;
+use text::put_repeated;
+use text::put_text;
 ghost use Prim.Native.Nat.{_+_, _≤_, _<_};
 ghost use lib.ListN.{length};
 
@@ -41,12 +47,10 @@ pub fn put_bytes(bytes: &[u8]) {
 }
 
 fn write(page: &[u8], end: usize) -> u64 {
-    if end <= page.len() {
-        if !io::write_all(STDOUT_FILENO, &page[0..end]) {
-            return 1;
-        }
+    if io::write_all(STDOUT_FILENO, front(page, end)) {
+        return 0;
     }
-    0
+    1
 }
 
 // Each `fill..` adds text to the page behind the bytes that it has, and answers how many it has then.
@@ -61,7 +65,7 @@ fn fill(page: &mut [u8], before: usize, form: &[u8], numbers: &[u64], names: &[u
             end = fill_place(page, end, mark, width, number_at(numbers, used), names);
             used += 1;
         } else {
-            end = fill_repeated(page, end, mark, 0, width);
+            end = put_repeated(page, end, mark, width);
         }
         i += width;
     }
@@ -99,48 +103,11 @@ fn number_at(numbers: &[u64], at: usize) -> u64 {
 
 fn fill_place(page: &mut [u8], end: usize, mark: u8, width: usize, n: u64, names: &[u8]) -> usize {
     match mark {
-        HEXADECIMAL => fill_hexadecimal(page, end, n, width),
-        NAME => fill_text(page, end, line_at(names, n)),
-        _ => fill_decimal(page, end, mark, n, width),
+        RIGHT => put_decimal(page, end, n, width),
+        LEFT => put_decimal_left(page, end, n, width),
+        HEXADECIMAL => put_hexadecimal(page, end, n, width),
+        _ => put_text(page, end, line_at(names, n)),
     }
-}
-
-fn fill_decimal(page: &mut [u8], end: usize, mark: u8, n: u64, width: usize) -> usize {
-    let mut digits = [0u8; 20];
-    let count = io::decimal(n, &mut digits);
-    if mark == LEFT {
-        let behind = fill_text(page, end, &digits[..count]);
-        return fill_repeated(page, behind, b' ', count, width);
-    }
-    let start = fill_repeated(page, end, b' ', count, width);
-    fill_text(page, start, &digits[..count])
-}
-
-fn fill_hexadecimal(page: &mut [u8], end: usize, n: u64, width: usize) -> usize {
-    let mut digits = [0u8; 16];
-    let count = io::hex(n, width, &mut digits);
-    fill_text(page, end, &digits[..count])
-}
-
-// The byte so often that with those that are done the width is full.
-fn fill_repeated(page: &mut [u8], before: usize, byte: u8, done: usize, width: usize) -> usize {
-    let mut end = before;
-    let mut i = done;
-    while i < width {
-        end = fill_byte(page, end, byte);
-        i += 1;
-    }
-    end
-}
-
-fn fill_text(page: &mut [u8], before: usize, text: &[u8]) -> usize {
-    let mut end = before;
-    let mut i = 0;
-    while i < text.len() {
-        end = fill_byte(page, end, text[i]);
-        i += 1;
-    }
-    end
 }
 
 // The line with that number, from 0 on, without its end.
@@ -168,13 +135,13 @@ fn fill_bytes(page: &mut [u8], bytes: &[u8]) -> usize {
         end = fill_byte_at(page, end, i, bytes[i]);
         i += 1;
     }
-    fill_byte(page, end, b'\n')
+    put_text(page, end, b"\n")
 }
 
 fn fill_byte_at(page: &mut [u8], end: usize, at: usize, byte: u8) -> usize {
     let start = fill_row_start(page, end, at);
-    let blank = fill_byte(page, start, b' ');
-    fill_hexadecimal(page, blank, byte as u64, 2)
+    let blank = put_text(page, start, b" ");
+    put_hexadecimal(page, blank, byte as u64, 2)
 }
 
 // Before the first byte of a line.
@@ -183,9 +150,9 @@ fn fill_row_start(page: &mut [u8], end: usize, at: usize) -> usize {
         return end;
     }
     let start = fill_line_end(page, end, at);
-    let word = fill_text(page, start, b"  bytes   ");
-    let place = fill_decimal(page, word, RIGHT, at as u64, 5);
-    fill_byte(page, place, b' ')
+    let word = put_text(page, start, b"  bytes   ");
+    let place = put_decimal(page, word, at as u64, 5);
+    put_text(page, place, b" ")
 }
 
 // The end of the line before that place, if there is one.
@@ -193,19 +160,5 @@ fn fill_line_end(page: &mut [u8], end: usize, at: usize) -> usize {
     if at == 0 {
         return end;
     }
-    fill_byte(page, end, b'\n')
-}
-
-// A full page is written first.
-fn fill_byte(page: &mut [u8], end: usize, byte: u8) -> usize {
-    if end < page.len() {
-        page[end] = byte;
-        return end + 1;
-    }
-    write(page, page.len());
-    if page.len() == 0 {
-        return 0;
-    }
-    page[0] = byte;
-    1
+    put_text(page, end, b"\n")
 }

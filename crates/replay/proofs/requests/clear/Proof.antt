@@ -1,8 +1,8 @@
--- `clear` is safe and ends: each turn leaves a byte fewer. Assumes nothing.
+-- `requests::clear` is safe and ends: each turn leaves a byte fewer. Assumes nothing.
 use Prim.Native.Nat.{_-_, _≤_}
 use borrow.Author.Needs.{needs}
-use Rattle.replay.proofs.clear.Statement.{statement}
-use Rattle.replay.proofs.clear.Tie as tie
+use Rattle.replay.proofs.requests.clear.Statement.{statement}
+use Rattle.replay.proofs.requests.clear.Tie as tie
 
 abbrev Inv-loop : tie.InvT-loop
 Inv-loop buffer₀ i₀ buffer i = i ≤ 1024

@@ -1,0 +1,3 @@
+pub mod Page
+pub mod Digits
+pub mod Padded
