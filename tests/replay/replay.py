@@ -89,9 +89,8 @@ def stored(name):
     """The lines of each part of the file, which has these parts and no others."""
     path = STORE / name
     lines = path.read_text("latin-1").split("\n") if path.exists() else [""]
-    due = [mark(part) for part in PARTS]
-    marks = [at for at, line in enumerate(lines) if line in due]
-    if [lines[at] for at in marks] != due or marks[0] != 0 or lines.pop() != "":
+    marks = [at for at, line in enumerate(lines) if line.startswith("# ") and ": made by " in line]
+    if [lines[at] for at in marks] != [mark(part) for part in PARTS] or marks[0] != 0 or lines.pop() != "":
         fail(f"{path.relative_to(ROOT)} has not just the parts that are known")
     return {part: lines[start + 1 : end] for part, start, end in zip(PARTS, marks, marks[1:] + [len(lines)])}
 

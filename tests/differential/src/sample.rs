@@ -47,15 +47,13 @@ fn hexadecimal(bytes: &[u8]) -> String {
     bytes.iter().map(|byte| format!("{byte:02x}")).collect()
 }
 
-/// Where the part stands in a file: from behind its mark up to the next comment.
+/// Where the part stands in a file: from behind its mark up to the next one.
 pub fn part(file: &str) -> Option<std::ops::Range<usize>> {
     let start = file.find(MARK)? + MARK.len();
-    let rest = &file[start..];
-    let end = match rest.strip_prefix('#') {
-        Some(_) => start,
-        None => rest.find("\n#").map_or(file.len(), |at| start + at + 1),
-    };
-    Some(start..end)
+    let is_mark = |line: &&str| line.starts_with("# ") && line.contains(": made by ");
+    let lines = file[start..].split_inclusive('\n');
+    let length: usize = lines.take_while(|line| !is_mark(line)).map(str::len).sum();
+    Some(start..start + length)
 }
 
 fn step_words(step: &CrateStep<'_>) -> String {
