@@ -53,8 +53,8 @@ fn main() -> ExitCode {
     let good = match words[..] {
         ["--mutations"] => mutations::all_noticed(&side(), &model::Model),
         ["--mutation", name] => mutations::show(&side(), &model::Model, name),
-        ["--write-sample", records, lines] => write_sample(records, lines),
-        ["--check-sample", records, lines] => check_sample(records, lines),
+        ["--write-sample", requests, lines] => write_sample(requests, lines),
+        ["--check-sample", requests, lines] => check_sample(requests, lines),
         _ => match amount(&words) {
             Some(amount) => compare_all(amount),
             None => {
@@ -156,37 +156,36 @@ fn made_sample() -> Option<sample::Sample> {
     }
 }
 
+/// Lays the sample into both files, in place of the part that they have.
 #[cfg(feature = "rust-crate")]
-fn write_sample(records: &str, lines: &str) -> bool {
+fn write_sample(requests: &str, lines: &str) -> bool {
     let Some(sample) = made_sample() else {
         return false;
     };
-    for (file, bytes) in [
-        (records, &sample.records[..]),
-        (lines, sample.lines.as_bytes()),
-    ] {
-        if let Err(error) = std::fs::write(file, bytes) {
-            println!("{file}: {error}");
+    for (name, made) in [(requests, &sample.requests), (lines, &sample.lines)] {
+        let Some((mut file, part)) = stored_sample(name) else {
+            return false;
+        };
+        file.replace_range(part, made);
+        if let Err(error) = std::fs::write(name, file) {
+            println!("{name}: {error}");
             return false;
         }
-        println!("{file}: {} bytes", bytes.len());
+        println!("{name}: {} bytes", made.len());
     }
     true
 }
 
 #[cfg(feature = "rust-crate")]
-fn check_sample(records: &str, lines: &str) -> bool {
+fn check_sample(requests: &str, lines: &str) -> bool {
     let Some(sample) = made_sample() else {
         return false;
     };
     let mut good = true;
-    for (file, bytes) in [
-        (records, &sample.records[..]),
-        (lines, sample.lines.as_bytes()),
-    ] {
-        let same = std::fs::read(file).is_ok_and(|stored| stored == bytes);
+    for (name, made) in [(requests, &sample.requests), (lines, &sample.lines)] {
+        let same = stored_sample(name).is_some_and(|(file, part)| file[part] == **made);
         println!(
-            "{file}: {}",
+            "{name}: {}",
             if same {
                 "as made now"
             } else {
@@ -198,13 +197,30 @@ fn check_sample(records: &str, lines: &str) -> bool {
     good
 }
 
+/// The file, and where the sample stands in it.
+#[cfg(feature = "rust-crate")]
+fn stored_sample(name: &str) -> Option<(String, std::ops::Range<usize>)> {
+    let file = match std::fs::read_to_string(name) {
+        Ok(file) => file,
+        Err(error) => {
+            println!("{name}: {error}");
+            return None;
+        }
+    };
+    let part = sample::part(&file);
+    if part.is_none() {
+        println!("{name}: the part of the crate's answers is not marked there");
+    }
+    Some((file, part?))
+}
+
 #[cfg(not(feature = "rust-crate"))]
-fn write_sample(_records: &str, _lines: &str) -> bool {
+fn write_sample(_requests: &str, _lines: &str) -> bool {
     println!("the sample holds the Rust crate's answers, and its sources are not here");
     false
 }
 
 #[cfg(not(feature = "rust-crate"))]
-fn check_sample(records: &str, lines: &str) -> bool {
-    write_sample(records, lines)
+fn check_sample(requests: &str, lines: &str) -> bool {
+    write_sample(requests, lines)
 }

@@ -1,6 +1,6 @@
-//! A sample of the crate's answers, for a program that replays it without Rust: records of input, and one line of answers for each.
+//! A sample of the crate's answers, for the program `replay`, which compares them without Rust: requests, and a line of answers for each.
 //!
-//! A record is a letter, two bytes of length (big-endian) and that many bytes. README.md has the letters and the lines.
+//! It is a part of the files that the program is run on; crates/replay/README.md has the form of requests and answers.
 
 use crate::answers::*;
 use crate::compare::is_packet;
@@ -15,8 +15,15 @@ const SEED: u64 = 13818;
 /// packets for the reader of each form
 const PACKETS: usize = 1000;
 
+/// The comment that the part begins with.
+const MARK: &str = "# crate: made by tests/differential/compare\n";
+
+/// What the crate shows of a packet.
+const PACKET_CALLS: &str =
+    "header,payload,adaptation_field,pcr,opcr,splice_countdown,transport_private_data";
+
 pub struct Sample {
-    pub records: Vec<u8>,
+    pub requests: String,
     pub lines: String,
     counts: Counts,
     reader: CrateReader,
@@ -33,26 +40,49 @@ fn adler32(bytes: &[u8]) -> u32 {
     high << 16 | low
 }
 
+fn hexadecimal(bytes: &[u8]) -> String {
+    if bytes.is_empty() {
+        return String::from("-");
+    }
+    bytes.iter().map(|byte| format!("{byte:02x}")).collect()
+}
+
+/// Where the part stands in a file: from behind its mark up to the next one.
+pub fn part(file: &str) -> Option<std::ops::Range<usize>> {
+    let start = file.find(MARK)? + MARK.len();
+    let is_mark = |line: &&str| line.starts_with("# ") && line.contains(": made by ");
+    let lines = file[start..].split_inclusive('\n');
+    let length: usize = lines.take_while(|line| !is_mark(line)).map(str::len).sum();
+    Some(start..start + length)
+}
+
 fn step_words(step: &CrateStep<'_>) -> String {
     if step.answer != 2 {
         return step.answer.to_string();
     }
     let place = step.place();
-    let holder = if place.holder == IN_PACKET {
-        "packet"
-    } else {
-        "buffer"
-    };
     let digest = adler32(step.bytes());
-    format!("2 {holder} {} {} {digest}", place.start, place.length)
+    format!(
+        "2 {} {} {} {digest}",
+        place.holder, place.start, place.length
+    )
+}
+
+/// The answer of a call: its number, and the values where it is not refused.
+fn answer(number: u8, values: &[u64]) -> String {
+    let mut words = number.to_string();
+    if number == 0 {
+        for value in values {
+            let _ = write!(words, " {value}");
+        }
+    }
+    words
 }
 
 impl Sample {
-    fn record(&mut self, letter: u8, bytes: &[u8]) {
-        self.records.push(letter);
-        let length = u16::try_from(bytes.len()).expect("a short record");
-        self.records.extend(length.to_be_bytes());
-        self.records.extend(bytes);
+    fn request(&mut self, words: &str) {
+        self.requests.push_str(words);
+        self.requests.push('\n');
     }
 
     fn line(&mut self, words: &str) {
@@ -61,57 +91,52 @@ impl Sample {
     }
 
     fn fresh(&mut self, form: u8) {
-        self.record(b'R', &[form]);
-        self.line(&format!("reader {form}"));
+        self.request(&format!("begin {form}"));
+        self.line("0");
         self.reader.renew(form);
         self.form = form;
     }
 
     fn packet(&mut self, packet: &[u8]) {
-        self.record(b'P', packet);
+        self.request(&format!("feed {}", hexadecimal(packet)));
         let [tail, head] = self.reader.work(packet).expect("an answer of the crate");
         self.counts.crate_step(self.form, TAIL, tail.answer);
         self.counts.crate_step(self.form, HEAD, head.answer);
-        let words = format!("tail {} head {}", step_words(&tail), step_words(&head));
+        let words = format!("{} {}", step_words(&tail), step_words(&head));
         self.line(&words);
     }
 
     fn fields(&mut self, packet: &[u8]) {
-        self.record(b'F', packet);
+        self.request(&format!("{PACKET_CALLS} {}", hexadecimal(packet)));
         let fields = rust_crate::fields(packet);
         let header = fields.header;
-        let mut words = format!(
-            "header {} {} {} {} {} {} {}",
-            header.error,
-            header.unit_start,
-            header.priority,
-            header.pid,
-            header.scrambling,
-            header.control,
-            header.counter
-        );
         let payload = fields.payload;
         let field = fields.adaptation;
-        let _ = write!(words, " payload {} {}", payload.answer, payload.start);
-        let _ = write!(words, " adaptation {} {}", field.answer, field.length);
-        for flag in field.flags {
-            let _ = write!(words, " {flag}");
-        }
-        for (name, clock) in [("pcr", fields.pcr), ("opcr", fields.opcr)] {
-            let _ = write!(
-                words,
-                " {name} {} {} {}",
-                clock.answer, clock.base, clock.extension
-            );
-        }
+        let mut flags = vec![u64::from(field.length)];
+        flags.extend(field.flags.map(u64::from));
+        let clock = |clock: &Clock| answer(clock.answer, &[clock.base, clock.extension.into()]);
         let (splice, data) = (fields.splice, fields.private_data);
-        let _ = write!(words, " splice {} {}", splice.answer, splice.countdown);
-        let _ = write!(
-            words,
-            " private {} {} {}",
-            data.answer, data.start, data.length
-        );
-        self.line(&words);
+        let answers = [
+            answer(
+                0,
+                &[
+                    header.error.into(),
+                    header.unit_start.into(),
+                    header.priority.into(),
+                    header.pid.into(),
+                    header.scrambling.into(),
+                    header.control.into(),
+                    header.counter.into(),
+                ],
+            ),
+            answer(payload.answer, &[payload.start as u64]),
+            answer(field.answer, &flags),
+            clock(&fields.pcr),
+            clock(&fields.opcr),
+            answer(splice.answer, &[splice.countdown.into()]),
+            answer(data.answer, &[data.start as u64, data.length as u64]),
+        ];
+        self.line(&answers.join(" "));
         let calls = [
             ("payload", payload.answer),
             ("adaptation field", field.answer),
@@ -126,62 +151,70 @@ impl Sample {
     }
 
     fn counter(&mut self, counter: u8, other: u8) {
-        self.record(b'C', &[counter, other]);
+        self.request(&format!("counter_follows {counter} {other}"));
         let follows = rust_crate::follows(counter, other).expect("counters of at most 15");
-        self.line(&format!("follows {follows}"));
+        self.line(&format!("0 {follows}"));
     }
 
     /// A section of at least 8 bytes.
     fn section(&mut self, section: &[u8]) {
-        self.record(b'S', section);
+        let bytes = hexadecimal(section);
+        self.request(&format!("sum32,section_header,table_header {bytes}"));
         let header = rust_crate::section_header(section);
         let table = rust_crate::table_header(section);
-        let words = format!(
-            "crc {} section {} {} {} {} {} table {} {} {} {} {} {}",
-            rust_crate::crc(section),
-            header.answer,
-            header.table_id,
-            header.syntax,
-            header.private,
-            header.length,
-            table.answer,
-            table.id,
-            table.version,
-            table.current,
-            table.number,
-            table.last
-        );
-        self.line(&words);
+        let answers = [
+            answer(0, &[rust_crate::crc(section).into()]),
+            answer(
+                header.answer,
+                &[
+                    header.table_id.into(),
+                    header.syntax.into(),
+                    header.private.into(),
+                    header.length.into(),
+                ],
+            ),
+            answer(
+                table.answer,
+                &[
+                    table.id.into(),
+                    table.version.into(),
+                    table.current.into(),
+                    table.number.into(),
+                    table.last.into(),
+                ],
+            ),
+        ];
+        self.line(&answers.join(" "));
     }
 
     fn pat(&mut self, body: &[u8]) {
-        self.record(b'A', body);
+        self.request(&format!("pat {}", hexadecimal(body)));
         let (entries, end) = rust_crate::pat(body);
-        let mut words = String::from("pat");
+        let mut words = String::new();
         for (number, pid) in entries {
-            let _ = write!(words, " {number} {pid}");
+            let _ = write!(words, "0 {number} {pid} ");
         }
-        let _ = write!(words, " end {end}");
+        let _ = write!(words, "{end}");
         self.line(&words);
         self.counts.call(call_index("PAT walk"), end);
     }
 
     fn pmt(&mut self, body: &[u8]) {
-        self.record(b'M', body);
+        self.request(&format!("pmt {}", hexadecimal(body)));
         let (pmt, streams, end) = rust_crate::pmt(body);
         self.counts.call(call_index("PMT start"), pmt.answer);
         if pmt.answer == 22 {
-            self.line(&format!("pmt 22 {} {}", pmt.needed, pmt.actual));
+            self.line(&format!("22 {} {}", pmt.needed, pmt.actual));
             return;
         }
         let (length, start) = (pmt.descriptors_length, pmt.streams);
-        let mut words = format!("pmt 0 {} {length} {start}", pmt.pcr_pid);
+        let mut words = format!("0 {} {length} {start}", pmt.pcr_pid);
         for stream in streams {
             let (kind, pid) = (stream.stream_type, stream.pid);
             let (start, length) = (stream.info_start, stream.info_length);
-            let _ = write!(words, " {kind} {pid} {start} {length}");
+            let _ = write!(words, " 0 {kind} {pid} {start} {length}");
         }
-        let _ = write!(words, " end {end}");
+        let _ = write!(words, " {end}");
         self.line(&words);
         self.counts.call(call_index("PMT walk"), end);
     }
@@ -272,7 +305,7 @@ impl Sample {
 /// The sample, or the answers that it lacks.
 pub fn make() -> Result<Sample, Vec<String>> {
     let mut sample = Sample {
-        records: Vec::new(),
+        requests: String::new(),
         lines: String::new(),
         counts: Counts::default(),
         reader: CrateReader::new(COMPACT),

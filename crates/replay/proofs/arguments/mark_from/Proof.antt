@@ -1,0 +1,47 @@
+-- `arguments::mark_from` is safe and ends: each turn leaves fewer bytes. Assumes nothing.
+use Prim.Native.Nat.{_-_, _≤_}
+use lib.ListN.{length}
+use borrow.Author.Needs.{needs}
+use Rattle.replay.proofs.arguments.mark_from.Statement.{statement}
+use Rattle.replay.proofs.arguments.mark_from.Tie as tie
+
+abbrev Inv-loop : tie.InvT-loop
+Inv-loop text at mark end₀ end = (at ≤ end) × (end ≤ length text)
+
+abbrev μ-loop : tie.MeasureT-loop
+μ-loop text at mark end₀ end = length text - end
+
+loop-holds : tie.Need-loop-holds Inv-loop μ-loop
+loop-holds c = search needs
+
+shared-slice-read-if1 : tie.Need-shared-slice-read-if1 Inv-loop μ-loop
+shared-slice-read-if1 c = search needs
+
+add-end : tie.Need-add-end Inv-loop μ-loop
+add-end c = search needs
+
+loop-less : tie.Need-loop-less Inv-loop μ-loop
+loop-less c = search needs
+
+loop-again : tie.Need-loop-again Inv-loop μ-loop
+loop-again c = search needs
+
+returns : tie.Need-returns Inv-loop μ-loop
+returns c = search needs
+
+returns-2 : tie.Need-returns-2 Inv-loop μ-loop
+returns-2 c = search needs
+
+pub mark-from-spec : {M : Type 1} → statement M
+mark-from-spec =
+    tie.close
+    (tie.spec
+    Inv-loop
+    μ-loop
+    loop-holds
+    shared-slice-read-if1
+    add-end
+    loop-less
+    loop-again
+    returns
+    returns-2)
