@@ -1,5 +1,4 @@
 // The bodies of a PAT and a PMT: single entries, and walks from entry to entry until one is refused.
-use crate::arguments::line_of;
 use crate::line;
 use crate::line::GIVEN;
 use answers::Answer;
@@ -11,11 +10,6 @@ use pmt::PmtSection;
 use pmt::StreamAnswer;
 ghost use Prim.Native.Nat.{_≤_};
 ghost use lib.ListN.{length};
-
-// How many calls there are; the first ones are asked at a position.
-pub const CALLS: u64 = 8;
-
-pub const CALLS_AT_A_POSITION: u64 = 4;
 
 // The calls, by their numbers. `pat` and `pmt` answer what the Rust crate shows: no positions but those of the parts.
 struct Call;
@@ -43,13 +37,6 @@ struct Turn {
     end: usize,
     position: usize,
     goes_on: bool,
-}
-
-pub fn call_of(name: &[u8]) -> u64 {
-    line_of(
-        name,
-        b"program_at\nstream_at\nprograms\nstreams\npmt_start\npmt_streams\npat\npmt\n",
-    )
 }
 
 pub fn put(
