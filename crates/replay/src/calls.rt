@@ -100,7 +100,7 @@ pub fn put_all(
     let mut end = put_call(call_of(part(list, 0, b',')), position, bytes, page, start);
     let mut at = next(list, 0, b',');
     while at < OVER {
-        end = text::put_text(page, end, b" ");
+        end = line::put_text(page, end, b" ");
         end = put_call(call_of(part(list, at, b',')), position, bytes, page, end);
         at = next(list, at, b',');
     }

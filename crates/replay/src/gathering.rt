@@ -241,9 +241,9 @@ pub fn worked(
     page: &mut [u8; line::PAGE],
 ) -> Kept {
     let kept = given.kept;
-    let lent = text::front(packet, kept.packet_size);
+    let lent = line::front(packet, kept.packet_size);
     let step = called(call, kept.step, lent, buffer, kept.buffer_size);
-    let after = text::front(buffer, kept.buffer_size);
+    let after = line::front(buffer, kept.buffer_size);
     let end = put_step(step, lent, after, given.shows_bytes, page, kept.end);
     kept.with_step(step, end)
 }
@@ -318,7 +318,7 @@ fn put_state(step: Step, page: &mut [u8; line::PAGE], end: usize) -> usize {
 // Works both steps of the reader that is kept. What the tail step delivers is put before the head step lays bytes into the buffer.
 pub fn fed(kept: Kept, packet: &[u8], buffer: &mut [u8], page: &mut [u8; line::PAGE]) -> Kept {
     let tail = fed_to(Call::TAIL, kept, packet, buffer, page);
-    let between = tail.with_end(text::put_text(page, tail.end, b" "));
+    let between = tail.with_end(line::put_text(page, tail.end, b" "));
     fed_to(Call::HEAD, between, packet, buffer, page)
 }
 
@@ -329,9 +329,9 @@ fn fed_to(
     buffer: &mut [u8],
     page: &mut [u8; line::PAGE],
 ) -> Kept {
-    let lent = text::front(packet, kept.packet_size);
+    let lent = line::front(packet, kept.packet_size);
     let step = called(call, kept.step, lent, buffer, kept.buffer_size);
-    let after = text::front(buffer, kept.buffer_size);
+    let after = line::front(buffer, kept.buffer_size);
     kept.with_step(step, put_shown(step, lent, after, page, kept.end))
 }
 

@@ -125,7 +125,7 @@ fn read_on(run: Run, room: &mut [u8; LINE], page: &mut [u8; PAGE]) -> Run
 }
 
 fn written(kept: Kept, page: &[u8; PAGE]) -> Kept {
-    io::write_all(STDOUT_FILENO, text::front(page, kept.end));
+    io::write_all(STDOUT_FILENO, line::front(page, kept.end));
     kept.with_end(0)
 }
 

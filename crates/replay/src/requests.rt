@@ -29,7 +29,7 @@ pub fn answer_line(
     page: &mut [u8; PAGE],
 ) -> Kept {
     let after = answer(line, kept, packet, buffer, page);
-    after.with_end(text::put_text(page, after.end, b"\n"))
+    after.with_end(line::put_text(page, after.end, b"\n"))
 }
 
 // A comment is its own answer.
@@ -54,8 +54,8 @@ pub fn refused(fault: u8, page: &mut [u8; PAGE], start: usize) -> Kept {
         there are too many bytes\n\
         the line has no end\n\
         the line is too long\n";
-    let before = text::put_text(page, start, b"not a request: ");
-    let end = text::put_text(page, before, line_at(faults, fault));
+    let before = line::put_text(page, start, b"not a request: ");
+    let end = line::put_text(page, before, line_at(faults, fault));
     kept::anew(Form::Compact, 0, end)
 }
 
@@ -67,7 +67,7 @@ fn answer(
     page: &mut [u8; PAGE],
 ) -> Kept {
     if is_comment(line) {
-        return kept.with_end(text::put_text(page, kept.end, line));
+        return kept.with_end(line::put_text(page, kept.end, line));
     }
     let name = part(line, 0, b' ');
     let at = next(line, 0, b' ');
@@ -221,7 +221,7 @@ fn put_calls(
     packet: &[u8],
     page: &mut [u8; PAGE],
 ) -> Kept {
-    let bytes = text::front(packet, kept.packet_size);
+    let bytes = line::front(packet, kept.packet_size);
     let end = calls::put_all(list, position, bytes, page, kept.end);
     kept.with_end(end)
 }

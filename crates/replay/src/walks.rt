@@ -74,7 +74,7 @@ fn put_one(
 fn put_map_and_walk(call: u64, body: &[u8], page: &mut [u8; line::PAGE], start: usize) -> usize {
     let map = put_map(call == Call::PMT, body, page, start);
     if map.goes_on {
-        let end = text::put_text(page, map.end, b" ");
+        let end = line::put_text(page, map.end, b" ");
         return put_walk(call, map.position, body, page, end);
     }
     map.end
@@ -92,7 +92,7 @@ fn put_walk(
     let mut turn = put_entry(call, position, body, page, start);
     let mut calls = 0;
     while calls < body.len() && turn.goes_on {
-        let end = text::put_text(page, turn.end, b" ");
+        let end = line::put_text(page, turn.end, b" ");
         turn = put_entry(call, turn.position, body, page, end);
         calls += 1;
     }
@@ -140,14 +140,14 @@ fn put_whole_program(
 ) -> usize {
     match program {
         ProgramDescriptor::Network { pid } => {
-            let start = text::put_text(page, end, b"0 network ");
+            let start = line::put_text(page, end, b"0 network ");
             line::put_numbers(page, start, &[pid as u64, next])
         }
         ProgramDescriptor::Program {
             program_number,
             pid,
         } => {
-            let start = text::put_text(page, end, b"0 program ");
+            let start = line::put_text(page, end, b"0 program ");
             line::put_numbers(page, start, &[program_number as u64, pid as u64, next])
         }
     }
