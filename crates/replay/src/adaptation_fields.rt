@@ -1,5 +1,4 @@
 // The adaptation field of a packet, and the parts behind its flags.
-use crate::arguments::line_of;
 use crate::line;
 use crate::line::GIVEN;
 use adaptation::AdaptationField;
@@ -7,16 +6,6 @@ use adaptation::AdaptationFieldAnswer;
 use adaptation_parts::ClockAnswer;
 use adaptation_parts::SpliceCountdown;
 use adaptation_parts::TransportPrivateData;
-
-// How many calls there are.
-pub const CALLS: u64 = 5;
-
-pub fn call_of(name: &[u8]) -> u64 {
-    line_of(
-        name,
-        b"adaptation_field\npcr\nopcr\nsplice_countdown\ntransport_private_data\n",
-    )
-}
 
 pub fn put(call: u64, packet: &[u8], page: &mut [u8; line::PAGE], end: usize) -> usize {
     match call {

@@ -55,12 +55,6 @@ struct StepRead {
     fault: u8,
 }
 
-// What a call leaves, and where the text of the page then ends.
-struct Left {
-    step: Step,
-    end: usize,
-}
-
 pub fn call_of(name: &[u8]) -> u64 {
     line_of(name, b"tail\nhead\nfresh\nnone\nlook\n")
 }
@@ -247,39 +241,21 @@ pub fn worked(
     page: &mut [u8; line::PAGE],
 ) -> Kept {
     let kept = given.kept;
-    let buffer_size = least(kept.buffer_size, buffer.len());
-    let worked = work_lent(
-        call,
-        given,
-        text::front(packet, kept.packet_size),
-        &mut buffer[0..buffer_size],
-        page,
-    );
-    kept.with_step(worked.step, worked.end)
+    let lent = line::front(packet, kept.packet_size);
+    let step = called(call, kept.step, lent, buffer, kept.buffer_size);
+    let after = line::front(buffer, kept.buffer_size);
+    let end = put_step(step, lent, after, given.shows_bytes, page, kept.end);
+    kept.with_step(step, end)
 }
 
-fn work_lent(
-    call: u64,
-    given: Given,
-    packet: &[u8],
-    buffer: &mut [u8],
-    page: &mut [u8; line::PAGE],
-) -> Left {
-    let kept = given.kept;
-    let step = called(call, kept.step, packet, buffer);
-    Left {
-        step,
-        end: put_step(step, packet, buffer, given.shows_bytes, page, kept.end),
-    }
-}
-
-// What the call leaves of the step before it.
-fn called(call: u64, step: Step, packet: &[u8], buffer: &mut [u8]) -> Step {
+// What the call leaves of the step before it. The buffer is so many bytes of its room.
+fn called(call: u64, step: Step, packet: &[u8], room: &mut [u8], buffer_size: usize) -> Step {
+    let size = least(buffer_size, room.len());
     let reader = step.reader;
     let form = reader.form;
     match call {
-        Call::TAIL => reader.tail(packet, buffer),
-        Call::HEAD => reader.head(packet, buffer),
+        Call::TAIL => reader.tail(packet, &mut room[0..size]),
+        Call::HEAD => reader.head(packet, &mut room[0..size]),
         Call::FRESH => with_reader(step, Reader::fresh(form)),
         Call::NONE => with_reader(step, forgetful(reader)),
         _ => step,
@@ -339,45 +315,24 @@ fn put_state(step: Step, page: &mut [u8; line::PAGE], end: usize) -> usize {
     line::put_numbers(page, end, &numbers)
 }
 
-// Works both steps of the reader that is kept.
+// Works both steps of the reader that is kept. What the tail step delivers is put before the head step lays bytes into the buffer.
 pub fn fed(kept: Kept, packet: &[u8], buffer: &mut [u8], page: &mut [u8; line::PAGE]) -> Kept {
-    let buffer_size = least(kept.buffer_size, buffer.len());
-    let fed = feed_lent(
-        kept.step,
-        text::front(packet, kept.packet_size),
-        &mut buffer[0..buffer_size],
-        page,
-        kept.end,
-    );
-    kept.with_step(fed.step, fed.end)
+    let tail = fed_to(Call::TAIL, kept, packet, buffer, page);
+    let between = tail.with_end(line::put_text(page, tail.end, b" "));
+    fed_to(Call::HEAD, between, packet, buffer, page)
 }
 
-// What the tail step delivers is put before the head step lays bytes into the buffer.
-fn feed_lent(
-    before: Step,
-    packet: &[u8],
-    buffer: &mut [u8],
-    page: &mut [u8; line::PAGE],
-    start: usize,
-) -> Left {
-    let tail = work_shown(Call::TAIL, before, packet, buffer, page, start);
-    let end = text::put_text(page, tail.end, b" ");
-    work_shown(Call::HEAD, tail.step, packet, buffer, page, end)
-}
-
-fn work_shown(
+fn fed_to(
     call: u64,
-    before: Step,
+    kept: Kept,
     packet: &[u8],
     buffer: &mut [u8],
     page: &mut [u8; line::PAGE],
-    start: usize,
-) -> Left {
-    let step = called(call, before, packet, buffer);
-    Left {
-        step,
-        end: put_shown(step, packet, buffer, page, start),
-    }
+) -> Kept {
+    let lent = line::front(packet, kept.packet_size);
+    let step = called(call, kept.step, lent, buffer, kept.buffer_size);
+    let after = line::front(buffer, kept.buffer_size);
+    kept.with_step(step, put_shown(step, lent, after, page, kept.end))
 }
 
 // What the Rust crate shows of a step: its answer, and where a section was delivered its place and its digest.

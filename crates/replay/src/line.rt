@@ -16,7 +16,17 @@ const BASE: u64 = 65521;
 // Of so many bytes the sums fit; no room here has more.
 const MOST_SUMMED: usize = 1048576;
 
-// Each `put..` adds to the text of the page, which ends at `end`, and answers where it ends then.
+// Each `put..` adds to the text of the page, which ends at `end`, and answers where it ends then. (These two say less than those of
+// `text`: nothing here is proved of what is written, and each call is then proved in less time.)
+pub fn put_text(page: &mut [u8; PAGE], end: usize, text: &[u8]) -> usize {
+    text::put_text(page, end, text)
+}
+
+// The first bytes, so many.
+pub fn front(bytes: &[u8], count: usize) -> &[u8] {
+    text::front(bytes, count)
+}
+
 pub fn put_numbers(page: &mut [u8; PAGE], mut end: usize, numbers: &[u64]) -> usize {
     let mut i = 0;
     while i < numbers.len() {
@@ -31,7 +41,7 @@ fn put_next(page: &mut [u8; PAGE], end: usize, is_first: bool, n: u64) -> usize 
     if is_first {
         return text::put_decimal(page, end, n, 1);
     }
-    let start = text::put_text(page, end, b" ");
+    let start = put_text(page, end, b" ");
     text::put_decimal(page, start, n, 1)
 }
 
@@ -42,15 +52,15 @@ pub fn put_refusal(page: &mut [u8; PAGE], end: usize, refusal: Refusal) -> usize
 
 // How many bytes there are, and their digest.
 pub fn put_digest(page: &mut [u8; PAGE], end: usize, bytes: &[u8]) -> usize {
-    let start = text::put_text(page, end, b" ");
+    let start = put_text(page, end, b" ");
     put_numbers(page, start, &[bytes.len() as u64, adler32(bytes)])
 }
 
 // The bytes in hexadecimal, - where there are none.
 pub fn put_bytes(page: &mut [u8; PAGE], end: usize, bytes: &[u8]) -> usize {
-    let start = text::put_text(page, end, b" ");
+    let start = put_text(page, end, b" ");
     if bytes.len() == 0 {
-        return text::put_text(page, start, b"-");
+        return put_text(page, start, b"-");
     }
     put_hexadecimal(page, start, bytes)
 }

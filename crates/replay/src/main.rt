@@ -20,7 +20,6 @@ use libc::STDOUT_FILENO;
 use line::PAGE;
 use reader::Form;
 use requests::answer_line;
-use requests::ended;
 use requests::refused;
 ghost use Prim.Native.Nat.{_+_, _≤_};
 ghost use lib.ListN.{length};
@@ -126,7 +125,7 @@ fn read_on(run: Run, room: &mut [u8; LINE], page: &mut [u8; PAGE]) -> Run
 }
 
 fn written(kept: Kept, page: &[u8; PAGE]) -> Kept {
-    io::write_all(STDOUT_FILENO, text::front(page, kept.end));
+    io::write_all(STDOUT_FILENO, line::front(page, kept.end));
     kept.with_end(0)
 }
 
@@ -146,14 +145,8 @@ fn read_behind(room: &mut [u8], left: usize) -> usize
     requires { ⌜ left ≤ length (now room) ⌝ }
     ensures { λ r. ⌜ left + r ≤ length (now (room .exit)) ⌝ }
 {
-    read_some(&mut room[left..])
-}
-
-fn read_some(rest: &mut [u8]) -> usize
-    ensures { λ r. ⌜ r ≤ length (now (rest .exit)) ⌝ }
-{
-    let got = libc::read(STDIN_FILENO, rest);
-    io::count(got, rest)
+    let got = libc::read(STDIN_FILENO, &mut room[left..]);
+    io::count(got, &room[left..])
 }
 
 // The input is over, save so many bytes of a line.
@@ -166,6 +159,7 @@ fn end(left: usize, page: &mut [u8; PAGE]) {
     } else {
         Fault::TOO_LONG
     };
-    let kept = ended(refused(fault, page, 0), page);
+    let kept = refused(fault, page, 0);
     written(kept, page);
+    io::write_all(STDOUT_FILENO, b"\n");
 }

@@ -1,19 +1,11 @@
 // A packet's header, its payload, and its counter.
 use crate::arguments;
-use crate::arguments::line_of;
 use crate::line;
 use crate::line::GIVEN;
 use packet::ContinuityCounter;
 use packet::HeaderAnswer;
 use packet::Packet;
 use packet::Payload;
-
-// How many calls there are.
-pub const CALLS: u64 = 3;
-
-pub fn call_of(name: &[u8]) -> u64 {
-    line_of(name, b"header\npayload\npayload_number\n")
-}
 
 pub fn put(call: u64, packet: &[u8], page: &mut [u8; line::PAGE], end: usize) -> usize {
     match call {

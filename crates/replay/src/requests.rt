@@ -7,7 +7,6 @@ use crate::arguments::next;
 use crate::arguments::part;
 use crate::arguments::read_bytes;
 use crate::arguments::read_number;
-use crate::arguments::read_numbers;
 use crate::calls;
 use crate::calls::Takes;
 use crate::gathering;
@@ -21,6 +20,7 @@ use crate::packets;
 use reader::Form;
 use reader::Reader;
 
+// Puts the answer to a line, and its end.
 pub fn answer_line(
     line: &[u8],
     kept: Kept,
@@ -28,11 +28,8 @@ pub fn answer_line(
     buffer: &mut [u8; ROOM],
     page: &mut [u8; PAGE],
 ) -> Kept {
-    if is_comment(line) {
-        let end = text::put_text(page, kept.end, line);
-        return ended(kept.with_end(end), page);
-    }
-    ended(answer(line, kept, packet, buffer, page), page)
+    let after = answer(line, kept, packet, buffer, page);
+    after.with_end(line::put_text(page, after.end, b"\n"))
 }
 
 // A comment is its own answer.
@@ -41,10 +38,6 @@ fn is_comment(line: &[u8]) -> bool {
         return false;
     }
     line[0] == b'#'
-}
-
-pub fn ended(kept: Kept, page: &mut [u8; PAGE]) -> Kept {
-    kept.with_end(text::put_text(page, kept.end, b"\n"))
 }
 
 // A line that is no request is answered with what is wrong with it, and nothing is kept behind it.
@@ -61,8 +54,8 @@ pub fn refused(fault: u8, page: &mut [u8; PAGE], start: usize) -> Kept {
         there are too many bytes\n\
         the line has no end\n\
         the line is too long\n";
-    let before = text::put_text(page, start, b"not a request: ");
-    let end = text::put_text(page, before, line_at(faults, fault));
+    let before = line::put_text(page, start, b"not a request: ");
+    let end = line::put_text(page, before, line_at(faults, fault));
     kept::anew(Form::Compact, 0, end)
 }
 
@@ -73,6 +66,9 @@ fn answer(
     buffer: &mut [u8; ROOM],
     page: &mut [u8; PAGE],
 ) -> Kept {
+    if is_comment(line) {
+        return kept.with_end(line::put_text(page, kept.end, line));
+    }
     let name = part(line, 0, b' ');
     let at = next(line, 0, b' ');
     let call = gathering::call_of(name);
@@ -159,13 +155,16 @@ fn clear(buffer: &mut [u8; ROOM]) {
 }
 
 fn answer_follows(line: &[u8], start: usize, kept: Kept, page: &mut [u8; PAGE]) -> Kept {
-    let mut pair = [0u64; 2];
-    let cursor = read_numbers(line, start, &[255, 255], &mut pair);
-    let fault = of_the_last(cursor.at, cursor.fault);
+    let counter = read_number(line, start, 255);
+    if counter.fault != Fault::NONE {
+        return refused(counter.fault, page, kept.end);
+    }
+    let other = read_number(line, counter.at, 255);
+    let fault = of_the_last(other.at, other.fault);
     if fault != Fault::NONE {
         return refused(fault, page, kept.end);
     }
-    let end = packets::put_follows(pair[0], pair[1], page, kept.end);
+    let end = packets::put_follows(counter.value, other.value, page, kept.end);
     kept.with_end(end)
 }
 
@@ -222,7 +221,7 @@ fn put_calls(
     packet: &[u8],
     page: &mut [u8; PAGE],
 ) -> Kept {
-    let bytes = text::front(packet, kept.packet_size);
+    let bytes = line::front(packet, kept.packet_size);
     let end = calls::put_all(list, position, bytes, page, kept.end);
     kept.with_end(end)
 }

@@ -1,18 +1,10 @@
 // A section's header, table header and body.
-use crate::arguments::line_of;
 use crate::line;
 use crate::line::GIVEN;
 use psi::Body;
 use psi::HeaderAnswer;
 use psi::Section;
 use psi::TableHeaderAnswer;
-
-// How many calls there are.
-pub const CALLS: u64 = 3;
-
-pub fn call_of(name: &[u8]) -> u64 {
-    line_of(name, b"section_header\ntable_header\nbody\n")
-}
 
 pub fn put(call: u64, section: &[u8], page: &mut [u8; line::PAGE], end: usize) -> usize {
     match call {

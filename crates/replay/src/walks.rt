@@ -1,5 +1,4 @@
 // The bodies of a PAT and a PMT: single entries, and walks from entry to entry until one is refused.
-use crate::arguments::line_of;
 use crate::line;
 use crate::line::GIVEN;
 use answers::Answer;
@@ -11,11 +10,6 @@ use pmt::PmtSection;
 use pmt::StreamAnswer;
 ghost use Prim.Native.Nat.{_≤_};
 ghost use lib.ListN.{length};
-
-// How many calls there are; the first ones are asked at a position.
-pub const CALLS: u64 = 8;
-
-pub const CALLS_AT_A_POSITION: u64 = 4;
 
 // The calls, by their numbers. `pat` and `pmt` answer what the Rust crate shows: no positions but those of the parts.
 struct Call;
@@ -43,13 +37,6 @@ struct Turn {
     end: usize,
     position: usize,
     goes_on: bool,
-}
-
-pub fn call_of(name: &[u8]) -> u64 {
-    line_of(
-        name,
-        b"program_at\nstream_at\nprograms\nstreams\npmt_start\npmt_streams\npat\npmt\n",
-    )
 }
 
 pub fn put(
@@ -87,7 +74,7 @@ fn put_one(
 fn put_map_and_walk(call: u64, body: &[u8], page: &mut [u8; line::PAGE], start: usize) -> usize {
     let map = put_map(call == Call::PMT, body, page, start);
     if map.goes_on {
-        let end = text::put_text(page, map.end, b" ");
+        let end = line::put_text(page, map.end, b" ");
         return put_walk(call, map.position, body, page, end);
     }
     map.end
@@ -105,7 +92,7 @@ fn put_walk(
     let mut turn = put_entry(call, position, body, page, start);
     let mut calls = 0;
     while calls < body.len() && turn.goes_on {
-        let end = text::put_text(page, turn.end, b" ");
+        let end = line::put_text(page, turn.end, b" ");
         turn = put_entry(call, turn.position, body, page, end);
         calls += 1;
     }
@@ -153,14 +140,14 @@ fn put_whole_program(
 ) -> usize {
     match program {
         ProgramDescriptor::Network { pid } => {
-            let start = text::put_text(page, end, b"0 network ");
+            let start = line::put_text(page, end, b"0 network ");
             line::put_numbers(page, start, &[pid as u64, next])
         }
         ProgramDescriptor::Program {
             program_number,
             pid,
         } => {
-            let start = text::put_text(page, end, b"0 program ");
+            let start = line::put_text(page, end, b"0 program ");
             line::put_numbers(page, start, &[program_number as u64, pid as u64, next])
         }
     }

@@ -13,6 +13,9 @@ abbrev μ-loop : tie.MeasureT-loop
 part-requires : tie.Need-part-requires Inv-loop μ-loop
 part-requires c κs = search needs
 
+call-of-requires : tie.Need-call-of-requires Inv-loop μ-loop
+call-of-requires c κs = search needs
+
 put-call-requires : tie.Need-put-call-requires Inv-loop μ-loop
 put-call-requires c κs = search needs
 
@@ -30,6 +33,9 @@ put-text-requires c κs = search needs
 
 part-requires-2 : tie.Need-part-requires-2 Inv-loop μ-loop
 part-requires-2 c κs = search needs
+
+call-of-requires-2 : tie.Need-call-of-requires-2 Inv-loop μ-loop
+call-of-requires-2 c κs = search needs
 
 put-call-requires-2 : tie.Need-put-call-requires-2 Inv-loop μ-loop
 put-call-requires-2 c κs = search needs
@@ -53,12 +59,14 @@ put-all-spec =
     Inv-loop
     μ-loop
     part-requires
+    call-of-requires
     put-call-requires
     next-requires
     loop-holds
     slice-aggregate-put-text
     put-text-requires
     part-requires-2
+    call-of-requires-2
     put-call-requires-2
     next-requires-2
     loop-less

@@ -16,6 +16,9 @@ loop-holds c = search needs
 part-requires : tie.Need-part-requires Inv-loop μ-loop
 part-requires c κs = search needs
 
+call-of-requires : tie.Need-call-of-requires Inv-loop μ-loop
+call-of-requires c κs = search needs
+
 taken-with-requires : tie.Need-taken-with-requires Inv-loop μ-loop
 taken-with-requires c κs = search needs
 
@@ -39,6 +42,7 @@ taken-by-spec =
     μ-loop
     loop-holds
     part-requires
+    call-of-requires
     taken-with-requires
     next-requires
     loop-less
