@@ -13,7 +13,7 @@ use Rattle.psi.specs.Header.{sectionLength}
 use Rattle.memory.specs.declared.Form.{Form}
 use Rattle.reader.specs.Pointer.{unitStart, pointer, rest}
 
--- ---- of one packet
+-- ---- of one packet: its unit start is the bit of its header, the pointer is the payload's first byte, the rest what follows it
 
 -- a packet with a place for its payload (of the payload call the number is 0 and the value is the start), and the payload
 abbrev pub hasPayload : List ℕ → Bool
@@ -68,7 +68,8 @@ pub data TestsCrc : Form → Type 0 where
   full : TestsCrc Form.Full
   once : TestsCrc Form.Once
 
--- "exactly the first 3 plus section_length" of the bytes fed: so many were fed, and these are the section; "with CRC remainder zero"
+-- "exactly the first 3 plus section_length" of the bytes fed, whose second and third byte have the length: so many were fed, and these are the section;
+-- "with CRC remainder zero"
 pub record IsFirstOf (fed : List ℕ) (form : Form) (section : List ℕ) : Type 0 where
   pub enough : 3 + sectionLength fed ≤ length fed
   pub exactly : section ≡ take (3 + sectionLength fed) fed
