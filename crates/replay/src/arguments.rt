@@ -85,7 +85,8 @@ pub fn next(text: &[u8], at: usize, mark: u8) -> usize
     OVER
 }
 
-fn mark_from(text: &[u8], at: usize, mark: u8) -> usize
+// Where the next mark stands from there on; the text's end where there is none.
+pub fn mark_from(text: &[u8], at: usize, mark: u8) -> usize
     requires { ⌜ at ≤ length (now text) ⌝ }
     ensures { λ r. ⌜ (at ≤ r) × (r ≤ length (now (text .entry))) ⌝ }
 {

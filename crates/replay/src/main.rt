@@ -13,6 +13,7 @@ mod walks;
 
 use arguments::Fault;
 use arguments::between;
+use arguments::mark_from;
 use kept::Kept;
 use kept::ROOM;
 use libc::STDIN_FILENO;
@@ -95,11 +96,7 @@ fn line_end(room: &[u8], from: usize, to: usize) -> usize
     requires { ⌜ (from ≤ to) × (to ≤ length (now room)) ⌝ }
     ensures { λ r. ⌜ (from ≤ r) × (r ≤ to) ⌝ }
 {
-    let mut end = from;
-    while end < to && room[end] != b'\n' {
-        end += 1;
-    }
-    end
+    mark_from(&room[0..to], from, b'\n')
 }
 
 // Writes the answers, and reads more behind the bytes that have come. Where nothing more comes, or there is no room for it, the line
