@@ -4,11 +4,11 @@ use mathlib.Core.Path.{_≡_, refl, sym, ap, _∙_}
 use native.Mathlib.Omega.{arith}
 use Rattle.fields.specs.Choice.{if_then_else_, _is_}
 use Rattle.answers.specs.declared.Refusal.{Refusal}
-use Rattle.answers.specs.declared.Refusal.the-variants.{PacketSize, NoSyncByte, BufferSize, NoPayload, PayloadEmpty, PayloadBeyond, Under3Bytes, Under8Bytes, SectionUnder12, NoAdaptationField, AdaptationFieldLength, FlagClear, FieldEndsBefore, WalkAtEnd, NoEntryFits, StateNotSound, PositionAboveLength}
+use Rattle.answers.specs.declared.Refusal.the-variants.{PacketSize, NoSyncByte, BufferSize, NoPayload, PayloadEmpty, PayloadBeyond, Under3Bytes, Under8Bytes, SectionUnder12, NoAdaptationField, AdaptationFieldLength, FlagClear, FieldEndsBefore, WalkAtEnd, StateNotSound, PositionAboveLength}
 use Rattle.answers.specs.Refusals.{numberOf}
 
 -- the refusal of a number
-numbered : ℕ → Refusal
+pub numbered : ℕ → Refusal
 numbered n =
     if n is 3 then PacketSize
     else if n is 4 then NoSyncByte
@@ -24,11 +24,10 @@ numbered n =
     else if n is 20 then FlagClear
     else if n is 21 then FieldEndsBefore
     else if n is 23 then WalkAtEnd
-    else if n is 24 then NoEntryFits
     else if n is 25 then StateNotSound
     else PositionAboveLength
 
-numbered-number : (r : Refusal) → numbered (numberOf r) ≡ r
+pub numbered-number : (r : Refusal) → numbered (numberOf r) ≡ r
 unfolding numbered if_then_else_
 numbered-number PacketSize = refl
 numbered-number NoSyncByte = refl
@@ -44,7 +43,6 @@ numbered-number AdaptationFieldLength = refl
 numbered-number FlagClear = refl
 numbered-number FieldEndsBefore = refl
 numbered-number WalkAtEnd = refl
-numbered-number NoEntryFits = refl
 numbered-number StateNotSound = refl
 numbered-number PositionAboveLength = refl
 
@@ -52,22 +50,24 @@ numbered-number PositionAboveLength = refl
 pub one-number-one-refusal : (r s : Refusal) → numberOf r ≡ numberOf s → r ≡ s
 one-number-one-refusal r s e = sym (numbered-number r) ∙ ap numbered e ∙ numbered-number s
 
--- no refusal has the number 0
+-- a number is no refusal's where the refusal that it would be has another one
+no-refusals-number : (n : ℕ) → (numberOf (numbered n) ≡ n → ⊥) → (r : Refusal) → numberOf r ≡ n → ⊥
+no-refusals-number n other r e = other (ap numberOf (sym (ap numbered e) ∙ numbered-number r) ∙ e)
+
+-- so 0, which refuses nothing
 pub no-refusal-is-0 : (r : Refusal) → numberOf r ≡ 0 → ⊥
-no-refusal-is-0 PacketSize e = omega arith
-no-refusal-is-0 NoSyncByte e = omega arith
-no-refusal-is-0 BufferSize e = omega arith
-no-refusal-is-0 NoPayload e = omega arith
-no-refusal-is-0 PayloadEmpty e = omega arith
-no-refusal-is-0 PayloadBeyond e = omega arith
-no-refusal-is-0 Under3Bytes e = omega arith
-no-refusal-is-0 Under8Bytes e = omega arith
-no-refusal-is-0 SectionUnder12 e = omega arith
-no-refusal-is-0 NoAdaptationField e = omega arith
-no-refusal-is-0 AdaptationFieldLength e = omega arith
-no-refusal-is-0 FlagClear e = omega arith
-no-refusal-is-0 FieldEndsBefore e = omega arith
-no-refusal-is-0 WalkAtEnd e = omega arith
-no-refusal-is-0 NoEntryFits e = omega arith
-no-refusal-is-0 StateNotSound e = omega arith
-no-refusal-is-0 PositionAboveLength e = omega arith
+unfolding numbered if_then_else_
+no-refusal-is-0 = no-refusals-number 0 (λ (e : _≡_ {A = ℕ} 26 0). omega arith)
+
+-- and the numbers of the rows that tell where a walk stopped
+pub no-refusal-is-24 : (r : Refusal) → numberOf r ≡ 24 → ⊥
+unfolding numbered if_then_else_
+no-refusal-is-24 = no-refusals-number 24 (λ (e : _≡_ {A = ℕ} 26 24). omega arith)
+
+pub no-refusal-is-27 : (r : Refusal) → numberOf r ≡ 27 → ⊥
+unfolding numbered if_then_else_
+no-refusal-is-27 = no-refusals-number 27 (λ (e : _≡_ {A = ℕ} 26 27). omega arith)
+
+pub no-refusal-is-28 : (r : Refusal) → numberOf r ≡ 28 → ⊥
+unfolding numbered if_then_else_
+no-refusal-is-28 = no-refusals-number 28 (λ (e : _≡_ {A = ℕ} 26 28). omega arith)

@@ -1,4 +1,5 @@
--- Document 01's table of answers, which docs/RULES.md has: the one place of the definitions where their numbers stand. Each name is the row's meaning.
+-- The table of answers, document 01's and what the change requests added, which docs/RULES.md has: the one place of the definitions where
+-- their numbers stand. Each name is the row's meaning.
 use Prim.Native.Nat.{ℕ}
 
 abbrev pub nothingForThisStep : ℕ
@@ -73,11 +74,17 @@ pmtTooShort = 22
 abbrev pub walkAtEnd : ℕ
 walkAtEnd = 23
 
-abbrev pub noEntryFits : ℕ
-noEntryFits = 24
+abbrev pub patTail : ℕ
+patTail = 24
 
 abbrev pub stateNotSound : ℕ
 stateNotSound = 25
 
 abbrev pub positionAboveLength : ℕ
 positionAboveLength = 26
+
+abbrev pub streamUnder5 : ℕ
+streamUnder5 = 27
+
+abbrev pub infoPastEnd : ℕ
+infoPastEnd = 28

@@ -1,6 +1,6 @@
 -- The number of each refusal.
 use Prim.Native.Nat.{ℕ}
-use Rattle.answers.specs.Numbers.{packetSize, noSyncByte, bufferSize, noPayload, payloadEmpty, payloadBeyond, under3Bytes, under8Bytes, sectionUnder12, noAdaptationField, adaptationFieldLength, flagClear, fieldEndsBefore, walkAtEnd, noEntryFits, stateNotSound, positionAboveLength}
+use Rattle.answers.specs.Numbers.{packetSize, noSyncByte, bufferSize, noPayload, payloadEmpty, payloadBeyond, under3Bytes, under8Bytes, sectionUnder12, noAdaptationField, adaptationFieldLength, flagClear, fieldEndsBefore, walkAtEnd, stateNotSound, positionAboveLength}
 use Rattle.answers.specs.declared.Refusal.{Refusal}
 
 abbrev pub numberOf : Refusal → ℕ
@@ -18,6 +18,5 @@ numberOf Refusal.AdaptationFieldLength = adaptationFieldLength
 numberOf Refusal.FlagClear = flagClear
 numberOf Refusal.FieldEndsBefore = fieldEndsBefore
 numberOf Refusal.WalkAtEnd = walkAtEnd
-numberOf Refusal.NoEntryFits = noEntryFits
 numberOf Refusal.StateNotSound = stateNotSound
 numberOf Refusal.PositionAboveLength = positionAboveLength

@@ -1,4 +1,4 @@
-// Document 01's table of answers: the one place of the code where their numbers stand.
+// The table of answers: the one place of the code where their numbers stand.
 ghost use mathlib.Core.Path.{_≡_};
 ghost use Rattle.answers.specs.Refusals.{numberOf};
 
@@ -53,15 +53,19 @@ impl Answer {
 
     pub const WALK_AT_END: u8 = 23;
 
-    pub const NO_ENTRY_FITS: u8 = 24;
+    pub const PAT_TAIL: u8 = 24;
 
     pub const STATE_NOT_SOUND: u8 = 25;
 
     pub const POSITION_ABOVE_LENGTH: u8 = 26;
+
+    pub const STREAM_UNDER_5: u8 = 27;
+
+    pub const INFO_PAST_END: u8 = 28;
 }
 
-// Why a call gives nothing of what was asked: the rows that a call answers as a case of an enum. (22 tells two lengths and is a case of the PMT's own
-// answer; a step answers the other rows as numbers.)
+// Why a call gives nothing of what was asked: the rows that a call answers as a case of an enum. (22, 24, 27 and 28 tell numbers, and are cases of the
+// calls' own answers; a step answers the other rows as numbers.)
 pub enum Refusal {
     PacketSize,
     NoSyncByte,
@@ -77,7 +81,6 @@ pub enum Refusal {
     FlagClear,
     FieldEndsBefore,
     WalkAtEnd,
-    NoEntryFits,
     StateNotSound,
     PositionAboveLength,
 }
@@ -102,7 +105,6 @@ impl Refusal {
             Refusal::FlagClear => Answer::FLAG_CLEAR,
             Refusal::FieldEndsBefore => Answer::FIELD_ENDS_BEFORE,
             Refusal::WalkAtEnd => Answer::WALK_AT_END,
-            Refusal::NoEntryFits => Answer::NO_ENTRY_FITS,
             Refusal::StateNotSound => Answer::STATE_NOT_SOUND,
             Refusal::PositionAboveLength => Answer::POSITION_ABOVE_LENGTH,
         }

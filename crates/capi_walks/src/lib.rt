@@ -3,7 +3,7 @@ ghost use mathlib.Core.Path.{_≡_};
 ghost use Rattle.pat.specs.Programs.{programAt};
 ghost use Rattle.pmt.specs.Start.{startOf};
 ghost use Rattle.pmt.specs.Streams.{streamAt};
-ghost use Rattle.capi_walks.specs.Walks.{programForC, foundProgram, pmtForC, streamForC};
+ghost use Rattle.capi_walks.specs.Walks.{programForC, foundProgram, noProgram, pmtForC, streamForC, noStream};
 use answers::Answer;
 use pat::PatSection;
 use pat::ProgramAnswer;
@@ -15,6 +15,7 @@ use pmt::StreamAnswer;
 #[repr(C)]
 pub struct JambpepperProgram {
     pub next: usize,
+    pub offset: usize,
     pub program_number: u16,
     pub pid: u16,
     pub answer: u8,
@@ -36,6 +37,7 @@ pub struct JambpepperStream {
     pub info_start: usize,
     pub info_length: usize,
     pub next: usize,
+    pub offset: usize,
     pub elementary_pid: u16,
     pub stream_type: u8,
     pub answer: u8,
@@ -48,6 +50,7 @@ fn found_program(program: ProgramDescriptor, next: usize) -> JambpepperProgram
     match program {
         ProgramDescriptor::Network { pid } => JambpepperProgram {
             next,
+            offset: 0,
             program_number: 0,
             pid,
             answer: 0,
@@ -57,10 +60,24 @@ fn found_program(program: ProgramDescriptor, next: usize) -> JambpepperProgram
             pid,
         } => JambpepperProgram {
             next,
+            offset: 0,
             program_number,
             pid,
             answer: 0,
         },
+    }
+}
+
+// An answer without one.
+fn no_program(offset: usize, answer: u8) -> JambpepperProgram
+    ensures { λ r. ⌜ r ≡ noProgram offset answer ⌝ }
+{
+    JambpepperProgram {
+        next: 0,
+        offset,
+        program_number: 0,
+        pid: 0,
+        answer,
     }
 }
 
@@ -70,12 +87,8 @@ pub extern "C" fn jambpepper_program_at(body: &[u8], position: usize) -> Jambpep
 {
     match PatSection::program_at(body, position) {
         ProgramAnswer::Is { program, next } => found_program(program, next),
-        ProgramAnswer::Refused(refusal) => JambpepperProgram {
-            next: 0,
-            program_number: 0,
-            pid: 0,
-            answer: refusal.number(),
-        },
+        ProgramAnswer::Tail { offset } => no_program(offset, Answer::PAT_TAIL),
+        ProgramAnswer::Refused(refusal) => no_program(0, refusal.number()),
     }
 }
 
@@ -108,6 +121,21 @@ pub extern "C" fn jambpepper_pmt_start(body: &[u8]) -> JambpepperPmt
     }
 }
 
+// An answer without a stream.
+fn no_stream(offset: usize, answer: u8) -> JambpepperStream
+    ensures { λ r. ⌜ r ≡ noStream offset answer ⌝ }
+{
+    JambpepperStream {
+        info_start: 0,
+        info_length: 0,
+        next: 0,
+        offset,
+        elementary_pid: 0,
+        stream_type: 0,
+        answer,
+    }
+}
+
 #[no_mangle]
 pub extern "C" fn jambpepper_stream_at(body: &[u8], position: usize) -> JambpepperStream
     ensures { λ r. ⌜ r ≡ streamForC (streamAt (now (body .entry)) position) ⌝ }
@@ -119,18 +147,14 @@ pub extern "C" fn jambpepper_stream_at(body: &[u8], position: usize) -> Jambpepp
                 info_start: info.start,
                 info_length: info.len,
                 next,
+                offset: 0,
                 elementary_pid: stream.elementary_pid,
                 stream_type: stream.stream_type,
                 answer: 0,
             }
         }
-        StreamAnswer::Refused(refusal) => JambpepperStream {
-            info_start: 0,
-            info_length: 0,
-            next: 0,
-            elementary_pid: 0,
-            stream_type: 0,
-            answer: refusal.number(),
-        },
+        StreamAnswer::Under5 { offset } => no_stream(offset, Answer::STREAM_UNDER_5),
+        StreamAnswer::InfoPastEnd { offset } => no_stream(offset, Answer::INFO_PAST_END),
+        StreamAnswer::Refused(refusal) => no_stream(0, refusal.number()),
     }
 }

@@ -18,7 +18,7 @@ use Rattle.adaptation.specs.AdaptationField.{noField, flagsOf, wherePresent, of
 use Rattle.adaptation_parts.specs.Parts.{part, pcrOf}
 use Rattle.psi.specs.Header.{sectionLength, lengthLimit, wanted, versionNumber, isCurrent, tableFieldsOf, tableHeaderOf}
 use Rattle.psi.specs.Header as section-header
-use Rattle.psi.specs.Walk.{foundAt}
+use Rattle.psi.specs.Walk.{found, foundAt}
 use Rattle.pat.specs.declared.ProgramDescriptor.the-variants.{Network, Program}
 use Rattle.pat.specs.Programs.{programOf, programAt}
 use Rattle.pmt.specs.Streams.{streamOf, streamAt}
@@ -157,15 +157,14 @@ Case13 = crcOf (0xff ∷ 0xff ∷ 0xff ∷ 0xff ∷ []) ≡ 0
 -- "PAT 00 01 E1 00: program 1, PID 256. 00 00 E0 10: network, PID 16."
 abbrev pub Case14 : Type 0
 Case14 =
-    (programAt (0x00 ∷ 0x01 ∷ 0xe1 ∷ 0x00 ∷ []) 0 ≡ given (record { entry = Program 1 256; next = 4 }))
-    × (programAt (0x00 ∷ 0x00 ∷ 0xe0 ∷ 0x10 ∷ []) 0 ≡ given (record { entry = Network 16; next = 4 }))
+    (programAt (0x00 ∷ 0x01 ∷ 0xe1 ∷ 0x00 ∷ []) 0 ≡ found (Program 1 256) 4)
+    × (programAt (0x00 ∷ 0x00 ∷ 0xe0 ∷ 0x10 ∷ []) 0 ≡ found (Network 16) 4)
 
 -- "Stream 1B E1 01 F0 00: type 27, PID 257, no info."
 abbrev pub Case15 : Type 0
 Case15 =
     streamAt (0x1b ∷ 0xe1 ∷ 0x01 ∷ 0xf0 ∷ 0x00 ∷ []) 0
-    ≡ given
-    (record { entry = record { «stream_type» = 27; «elementary_pid» = 257; info = record { start = 5; len = 0 } }; next = 5 })
+    ≡ found (record { «stream_type» = 27; «elementary_pid» = 257; info = record { start = 5; len = 0 } }) 5
 
 -- the PCR of a packet with this control byte and this adaptation field length, whose PCR flag alone is set
 abbrev pub pcrBehind : ℕ → ℕ → Type 0

@@ -11,9 +11,9 @@ use Rattle.fields.specs.SyntaxTable.{size, behind, width}
 use Rattle.fields.specs.Word.{wordOf}
 use Rattle.fields.proofs.SyntaxTables.{field-of-word}
 use Rattle.fields.proofs.Choices.{test-holds, test-fails}
-use Rattle.answers.specs.Numbers.{noEntryFits}
-use Rattle.answers.specs.Says.{Says, given, refused}
-use Rattle.psi.specs.Walk.{Found, nothing}
+use Rattle.answers.specs.Numbers.{patTail}
+use Rattle.answers.specs.Says.{Says}
+use Rattle.psi.specs.Walk.{Found, found, noneFitsAt}
 use Rattle.psi.proofs.Walks.{found-entry, found-none}
 use Rattle.pat.specs.Syntax.{networkEntry, programEntry}
 use Rattle.pat.specs.Programs.{programOf, programKind, programAt}
@@ -22,15 +22,15 @@ use Rattle.pat.specs.declared.ProgramDescriptor.the-variants.{Network, P
 
 module _ (body : List ℕ) (position : ℕ) where
   -- under four bytes left
-  pub no-program-found : position < length body → length body < position + 4
-      → programAt body position ≡ refused noEntryFits (nothing programKind)
-  no-program-found l short =
+  pub tail-found : position < length body → length body < position + 4
+      → programAt body position ≡ noneFitsAt programKind position patTail
+  tail-found l short =
       found-none programKind body position l (lt-leb 4 (length (drop position body)) (simp length-drop (omega arith)))
 
   -- four bytes or more, whose first four are read as a word
   module _ (word : ℕ) (there : position + 4 ≤ length body) (read : word ≡ wordOf body position 4) where
     foundWith : ProgramDescriptor → Says (Found ProgramDescriptor)
-    foundWith program = given (record { entry = program; next = position + 4 })
+    foundWith program = found program (position + 4)
 
     entry-found : programAt body position
         ≡ foundWith (if word / 65536 % 65536 is 0 then Network (word % 8192) else Program (word / 65536 % 65536) (word % 8192))
@@ -44,11 +44,11 @@ module _ (body : List ℕ) (position : ℕ) where
         )
 
     pub network-found : word / 65536 % 65536 ≡ 0
-        → programAt body position ≡ given (record { entry = Network (word % 8192); next = position + 4 })
+        → programAt body position ≡ found (Network (word % 8192)) (position + 4)
     unfolding foundWith
     network-found e = entry-found ∙ ap foundWith (test-holds _ _ _ (eq-eqb _ _ e))
 
     pub program-found : (word / 65536 % 65536 ≡ 0 → ⊥)
-        → programAt body position ≡ given (record { entry = Program (word / 65536 % 65536) (word % 8192); next = position + 4 })
+        → programAt body position ≡ found (Program (word / 65536 % 65536) (word % 8192)) (position + 4)
     unfolding foundWith
     program-found n = entry-found ∙ ap foundWith (test-fails _ _ _ (ne-eqb _ _ n))

@@ -7,18 +7,23 @@ use borrow.Author.Tests.{leb-true, leb-false}
 use lib.ListN.{length, drop, getD, length-drop}
 use lib.Seq.{drop-drop}
 use Rattle.fields.specs.Choice.{if_then_else_, _isAtMost_}
-use Rattle.psi.specs.Walk.{walked, exactly, entriesIn, leftBehind}
-use Rattle.psi.proofs.Walks.{by-test, Fitting, walk-is-the-loop, entries-have-bytes, nothing-left-fits}
+use Rattle.answers.specs.Numbers.{walkAtEnd, patTail}
+use Rattle.psi.specs.Walk.{Walked, walked, exactly, entriesIn, leftBehind, leftFrom}
+use Rattle.psi.proofs.Walks.{by-test, Fitting, walk-is-the-loop, entries-have-bytes, nothing-left-fits, ends-at-end, ends-before}
 use Rattle.pat.specs.declared.ProgramDescriptor.{ProgramDescriptor}
-use Rattle.pat.specs.Programs.{programOf, programKind, programAt, programs, behindPrograms}
+use Rattle.pat.specs.Programs.{programOf, programKind, programAt, programs, behindPrograms, programsEnd}
 
 four-bytes : Fitting programKind
-four-bytes = record { whole = λ bytes f. let l = leb-true 4 (length bytes) f in omega arith }
+four-bytes =
+    record {
+      whole = λ bytes f. let l = leb-true 4 (length bytes) f in omega arith;
+      refuses = λ bytes e. omega arith;
+    }
 
 -- a host that starts at 0, hands each next position back and may make as many calls as the body has bytes (one, where it has none) gets
--- the programs in order, and then 23, or 24 where bytes are left behind them
+-- the programs in order, and then 23, or 24 and where they begin where bytes are left behind them
 pub host-gets-the-programs : (body : List ℕ) (calls : ℕ) → 0 < calls → length body ≤ calls
-    → walked (programAt body) calls 0 ≡ exactly (programs body) (behindPrograms body)
+    → walked (programAt body) calls 0 ≡ exactly programKind (programs body) (behindPrograms body) (programsEnd body)
 host-gets-the-programs body calls n c = walk-is-the-loop programKind four-bytes body 0 calls (omega arith) n c
 
 -- and makes no more calls than the body has bytes (one, where it has none)
@@ -55,20 +60,44 @@ module _ (any : ProgramDescriptor) where
   program-i body i l = program-in-turn (length body) 0 body i l
 
 bytes-in-turns : (turns position : ℕ) (bytes : List ℕ)
-    → 4 * length (entriesIn programKind turns position bytes) + length (leftBehind programKind turns bytes) ≡ length bytes
-unfolding entriesIn leftBehind if_then_else_
-bytes-in-turns zero position bytes = omega arith
+    → (4 * length (entriesIn programKind turns position bytes) + length (leftBehind programKind turns bytes) ≡ length bytes)
+    × (leftFrom programKind turns position bytes ≡ position + 4 * length (entriesIn programKind turns position bytes))
+unfolding entriesIn leftBehind leftFrom if_then_else_
+bytes-in-turns zero position bytes = (omega arith, omega arith)
 bytes-in-turns (suc turns) position bytes =
     by-test (4 isAtMost length bytes)
     (λ f.
     let l = leb-true 4 (length bytes) f in
-    rw f (omega (arith, bytes-in-turns turns (position + 4) (drop 4 bytes), length-drop 4 bytes)))
-    (λ f. rw f (omega arith))
+    let later = bytes-in-turns turns (position + 4) (drop 4 bytes) in
+    let len = length-drop 4 bytes in
+    rw f (omega arith, omega arith))
+    (λ f. rw f (omega arith, omega arith))
 
 -- there are as many as the body has times four bytes, and under four bytes behind the last
 pub as-many-as-fours : (body : List ℕ)
     → (4 * length (programs body) + length (behindPrograms body) ≡ length body) × (length (behindPrograms body) < 4)
 as-many-as-fours body = (
-  bytes-in-turns (length body) 0 body,
+  bytes-in-turns (length body) 0 body .0,
   leb-false 4 (length (behindPrograms body)) (nothing-left-fits programKind four-bytes (length body) body (omega arith)),
 )
+
+-- ---- how the walk ends
+
+-- where the body has a multiple of four bytes, with 23; else with 24 and the offset of the first byte that is in no program
+pub record Ends (body : List ℕ) (walk : Walked ProgramDescriptor) : Type 0 where
+  pub even : 4 * length (programs body) ≡ length body → (walk .ended ≡ walkAtEnd) × (walk .offset ≡ 0)
+  pub tail : 4 * length (programs body) < length body
+      → (walk .ended ≡ patTail) × (walk .offset ≡ 4 * length (programs body))
+
+pub how-the-walk-ends : (body : List ℕ) (calls : ℕ) → 0 < calls → length body ≤ calls → Ends body (walked (programAt body) calls 0)
+how-the-walk-ends body calls n c =
+    let fours = as-many-as-fours body in
+    let end : programsEnd body ≡ 4 * length (programs body) = omega (arith, bytes-in-turns (length body) 0 body .1) in
+    let left = behindPrograms body in
+    rw (host-gets-the-programs body calls n c)
+    (record {
+      even = λ e. ends-at-end programKind (programs body) left (programsEnd body) (omega arith);
+      tail = λ l.
+          let ends = ends-before programKind (programs body) left (programsEnd body) (λ e. omega arith) in
+          (ends .0, ends .1 ∙ end);
+    })

@@ -4,9 +4,10 @@ use mathlib.Core.List.{List}
 use lib.ListN.{length}
 use Rattle.fields.specs.Choice.{if_then_else_, _is_, _isAtMost_}
 use Rattle.fields.specs.SyntaxTable.{field}
-use Rattle.answers.specs.Says.{Says, given, refused}
+use Rattle.answers.specs.Numbers.{patTail}
+use Rattle.answers.specs.Says.{Says, refused}
 use Rattle.answers.specs.Refusals.{numberOf}
-use Rattle.psi.specs.Walk.{Kind, Found, nothing, foundAt, entriesIn, leftBehind}
+use Rattle.psi.specs.Walk.{Kind, Found, found, nothing, noneFitsAt, foundAt, entriesIn, leftBehind, leftFrom}
 use Rattle.pat.specs.Syntax.{networkEntry, programEntry}
 use Rattle.pat.specs.declared.ProgramDescriptor.{ProgramDescriptor}
 use Rattle.pat.specs.declared.ProgramDescriptor.the-variants.{Network, Program}
@@ -18,19 +19,21 @@ programOf entry =
     if field programEntry "program_number" entry is 0 then Network (field networkEntry "network_PID" entry)
     else Program (field programEntry "program_number" entry) (field programEntry "program_map_PID" entry)
 
--- "PAT entry: 4 bytes"; "One to three bytes left: 24", since none fits
+-- "PAT entry: 4 bytes"; "Keep 24 for a PAT tail of one to three bytes"
 abbrev pub programKind : Kind ProgramDescriptor
 programKind =
     record {
       fits = λ bytes. 4 isAtMost length bytes;
+      whyNot = λ bytes. patTail;
       size = λ bytes. 4;
       entry = λ position bytes. programOf bytes;
       none = Network 0;
     }
 
--- the number and the values of each case of the answer
+-- the number, the values and the offset of each case of the answer
 abbrev pub programSays : ProgramAnswer → Says (Found ProgramDescriptor)
-programSays (ProgramAnswer.Is program next) = given (record { entry = program; next = next })
+programSays (ProgramAnswer.Is program next) = found program next
+programSays (ProgramAnswer.Tail offset) = noneFitsAt programKind offset patTail
 programSays (ProgramAnswer.Refused refusal) = refused (numberOf refusal) (nothing programKind)
 
 -- "Walks take a body and a position"
@@ -46,3 +49,7 @@ programs body = entriesIn programKind (length body) 0 body
 -- the bytes behind the last of them
 abbrev pub behindPrograms : List ℕ → List ℕ
 behindPrograms body = leftBehind programKind (length body) body
+
+-- where these begin
+abbrev pub programsEnd : List ℕ → ℕ
+programsEnd body = leftFrom programKind (length body) 0 body

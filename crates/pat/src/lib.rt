@@ -12,11 +12,14 @@ pub enum ProgramDescriptor {
     Program { program_number: u16, pid: u16 },
 }
 
-// The entry and the position behind it, or 23, 24, 26.
+// The entry and the position behind it; 24, and the offset in the body of the one to three bytes that are left; or 23, 26.
 pub enum ProgramAnswer {
     Is {
         program: ProgramDescriptor,
         next: usize,
+    },
+    Tail {
+        offset: usize,
     },
     Refused(Refusal),
 }
@@ -37,7 +40,7 @@ impl PatSection {
             return ProgramAnswer::Refused(Refusal::WalkAtEnd);
         }
         if body.len() - position < ProgramDescriptor::SIZE {
-            return ProgramAnswer::Refused(Refusal::NoEntryFits);
+            return ProgramAnswer::Tail { offset: position };
         }
         let bits = word(body, position, ProgramDescriptor::SIZE);
         let program_number = ((bits >> 16) % 65536) as u16;

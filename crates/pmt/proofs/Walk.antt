@@ -1,18 +1,21 @@
 -- A host that walks the streams of a PMT's body gets those that it lists. Assumes nothing.
 use Prim.Native.Nat.{ℕ, _+_, _≤_, _<_}
-use mathlib.Core.Path.{_≡_, ap, _∙_}
+use mathlib.Core.Path.{_≡_, sym, ap, _∙_}
 use mathlib.Core.Bool.{false}
 use mathlib.Core.List.{List}
 use native.Mathlib.Omega.{arith}
-use borrow.Author.Tests.{leb-true}
+use borrow.Author.Tests.{leb-true, leb-false, le-leb}
 use lib.ListN.{length, drop, length-drop}
-use Rattle.fields.proofs.Choices.{and-holds}
-use Rattle.psi.specs.Walk.{walked, exactly, entriesIn, leftBehind}
-use Rattle.psi.proofs.Walks.{Fitting, walk-is-the-loop, entries-have-bytes, nothing-left-fits}
+use Rattle.fields.proofs.Choices.{test-holds, and-holds, of-both}
+use Rattle.answers.specs.Numbers.{walkAtEnd, streamUnder5, infoPastEnd}
+use Rattle.psi.specs.Walk.{Walked, walked, exactly, entriesIn, leftBehind, leftFrom}
+use Rattle.psi.proofs.Walks.{Fitting, walk-is-the-loop, entries-have-bytes, nothing-left-fits, left-from-there, ends-at-end, ends-before}
 use Rattle.pmt.specs.Start.{started, streamsStart, sectionOf, startOf}
-use Rattle.pmt.specs.Streams.{infoLength, streamKind, streamAt, streams, behindStreams}
+use Rattle.pmt.specs.Streams.{infoLength, streamKind, streamAt, streams, behindStreams, streamsEnd}
 use Rattle.pmt.specs.declared.PmtSection.{PmtSection}
+use Rattle.pmt.specs.declared.StreamInfo.{StreamInfo}
 use Rattle.pmt.proofs.Starts.{start-given}
+use Rattle.pmt.proofs.Streams.{why-under-5, why-info-past-end}
 
 five-bytes : Fitting streamKind
 five-bytes =
@@ -20,13 +23,17 @@ five-bytes =
       whole = λ bytes f.
           let within = leb-true (5 + infoLength bytes) (length bytes) (and-holds _ _ f .1) in
           omega arith;
+      refuses = λ bytes. of-both (λ (n : ℕ). n ≡ 0 → ⊥) _ _ _ (λ e. omega arith) (λ e. omega arith);
     }
 
 -- "Starting elsewhere reads what stands there": a host gets the streams of the loop over the bytes from its first position on
 pub host-gets-what-stands-there : (body : List ℕ) (position calls : ℕ) → position ≤ length body → 0 < calls → length body ≤ calls
     → (let bytes = drop position body in
     walked (streamAt body) calls position
-    ≡ exactly (entriesIn streamKind (length bytes) position bytes) (leftBehind streamKind (length bytes) bytes))
+    ≡ exactly streamKind
+    (entriesIn streamKind (length bytes) position bytes)
+    (leftBehind streamKind (length bytes) bytes)
+    (leftFrom streamKind (length bytes) position bytes))
 host-gets-what-stands-there body position calls h n c =
     walk-is-the-loop streamKind five-bytes body position calls h n (simp length-drop (omega arith))
 
@@ -38,9 +45,9 @@ no-stream-behind-streams body =
 
 module _ (body : List ℕ) (section : PmtSection) (start : started section ≡ startOf body) where
   -- a host that starts where the start call says, hands each next position back and may make as many calls as the body has bytes gets the
-  -- streams in order, and then 23, or 24 where bytes are left behind them
+  -- streams in order, and then 23, or 27 or 28 and where they begin where bytes are left behind them
   pub host-gets-the-streams : (calls : ℕ) → length body ≤ calls
-      → walked (streamAt body) calls (section .streams) ≡ exactly (streams body) (behindStreams body)
+      → walked (streamAt body) calls (section .streams) ≡ exactly streamKind (streams body) (behindStreams body) (streamsEnd body)
   unfolding sectionOf
   host-gets-the-streams calls c =
       let starts = start-given body section start in
@@ -59,3 +66,46 @@ module _ (body : List ℕ) (section : PmtSection) (start : started section ≡ s
         entries-have-bytes streamKind five-bytes (length bytes) (streamsStart body) bytes,
         length-drop (streamsStart body) body,
       ))
+
+-- ---- how the walk ends
+
+-- with 23 where no bytes are left behind the streams; else with 27 where these are under five, and with 28 where they are more, and too few for
+-- their info; and with the offset from which on they stand in the body: that of the first byte that is in no stream
+pub record Ends (body : List ℕ) (walk : Walked StreamInfo) : Type 0 where
+  pub even : length (behindStreams body) ≡ 0 → (walk .ended ≡ walkAtEnd) × (walk .offset ≡ 0)
+  pub under : 0 < length (behindStreams body) → length (behindStreams body) < 5
+      → (walk .ended ≡ streamUnder5) × (drop (walk .offset) body ≡ behindStreams body)
+  pub past : 5 ≤ length (behindStreams body)
+      → (walk .ended ≡ infoPastEnd)
+      × (drop (walk .offset) body ≡ behindStreams body)
+      × (length (behindStreams body) < 5 + infoLength (behindStreams body))
+
+-- what stands from the end of the streams on is what is left behind them
+left-at-streams-end : (body : List ℕ) → streamsStart body ≤ length body → drop (streamsEnd body) body ≡ behindStreams body
+left-at-streams-end body within =
+    let bytes = drop (streamsStart body) body in
+    sym (left-from-there streamKind five-bytes body (length bytes) (streamsStart body) within .0)
+
+-- five bytes or more into which no stream fits are too few for its info
+too-few-for-info : (bytes : List ℕ) → streamKind .fits bytes ≡ false → 5 ≤ length bytes → length bytes < 5 + infoLength bytes
+too-few-for-info bytes f five =
+    leb-false (5 + infoLength bytes) (length bytes) (sym (test-holds _ _ _ (le-leb 5 (length bytes) five)) ∙ f)
+
+pub how-the-walk-ends : (body : List ℕ) (section : PmtSection) → started section ≡ startOf body → (calls : ℕ) → length body ≤ calls
+    → Ends body (walked (streamAt body) calls (section .streams))
+how-the-walk-ends body section start calls c =
+    let left = behindStreams body in
+    let there = left-at-streams-end body (start-given body section start .within) in
+    let before = ends-before streamKind (streams body) left (streamsEnd body) in
+    let at : (length left ≡ 0 → ⊥) → drop (exactly streamKind (streams body) left (streamsEnd body) .offset) body ≡ left =
+        λ some. ap (λ (n : ℕ). drop n body) (before some .1) ∙ there in
+    rw (host-gets-the-streams body section start calls c)
+    (record {
+      even = ends-at-end streamKind (streams body) left (streamsEnd body);
+      under = λ some short.
+          let n : length left ≡ 0 → ⊥ = λ e. omega arith in
+          (before n .0 ∙ why-under-5 left short, at n);
+      past = λ five.
+          let n : length left ≡ 0 → ⊥ = λ e. omega arith in
+          (before n .0 ∙ why-info-past-end left five, at n, too-few-for-info left (no-stream-behind-streams body) five);
+    })

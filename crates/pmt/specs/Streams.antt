@@ -2,12 +2,13 @@
 use Prim.Native.Nat.{ℕ, _+_}
 use mathlib.Core.List.{List}
 use lib.ListN.{length, drop}
-use Rattle.fields.specs.Choice.{_and_, _isAtMost_}
+use Rattle.fields.specs.Choice.{if_then_else_, _and_, _isAtMost_, _isBelow_}
 use Rattle.fields.specs.SyntaxTable.{field}
-use Rattle.answers.specs.Says.{Says, given, refused}
+use Rattle.answers.specs.Numbers.{streamUnder5, infoPastEnd}
+use Rattle.answers.specs.Says.{Says, refused}
 use Rattle.answers.specs.Refusals.{numberOf}
 use Rattle.psi.specs.Place.{noPlace}
-use Rattle.psi.specs.Walk.{Kind, Found, nothing, foundAt, entriesIn, leftBehind}
+use Rattle.psi.specs.Walk.{Kind, Found, found, nothing, noneFitsAt, foundAt, entriesIn, leftBehind, leftFrom}
 use Rattle.pmt.specs.Syntax.{streamHeader}
 use Rattle.pmt.specs.Start.{streamsStart}
 use Rattle.pmt.specs.declared.StreamInfo.{StreamInfo}
@@ -26,19 +27,26 @@ streamOf position entry =
       info = record { start = position + 5; len = infoLength entry };
     }
 
--- "5 bytes and the info. Under 5 left, or info beyond the end: 24", since none fits
+-- "27 for a stream entry under 5 bytes and 28 for stream info past the end"
+abbrev pub whyNoStream : List ℕ → ℕ
+whyNoStream bytes = if length bytes isBelow 5 then streamUnder5 else infoPastEnd
+
+-- "5 bytes and the info": none fits under 5, nor where the info passes the end
 abbrev pub streamKind : Kind StreamInfo
 streamKind =
     record {
       fits = λ bytes. (5 isAtMost length bytes) and (5 + infoLength bytes isAtMost length bytes);
+      whyNot = whyNoStream;
       size = λ bytes. 5 + infoLength bytes;
       entry = streamOf;
       none = record { «stream_type» = 0; «elementary_pid» = 0; info = noPlace };
     }
 
--- the number and the values of each case of the answer
+-- the number, the values and the offset of each case of the answer
 abbrev pub streamSays : StreamAnswer → Says (Found StreamInfo)
-streamSays (StreamAnswer.Is stream next) = given (record { entry = stream; next = next })
+streamSays (StreamAnswer.Is stream next) = found stream next
+streamSays (StreamAnswer.Under5 offset) = noneFitsAt streamKind offset streamUnder5
+streamSays (StreamAnswer.InfoPastEnd offset) = noneFitsAt streamKind offset infoPastEnd
 streamSays (StreamAnswer.Refused refusal) = refused (numberOf refusal) (nothing streamKind)
 
 -- "Walks take a body and a position"; "Starting elsewhere reads what stands there"
@@ -58,3 +66,9 @@ abbrev pub behindStreams : List ℕ → List ℕ
 behindStreams body =
     let bytes = drop (streamsStart body) body in
     leftBehind streamKind (length bytes) bytes
+
+-- where these begin
+abbrev pub streamsEnd : List ℕ → ℕ
+streamsEnd body =
+    let bytes = drop (streamsStart body) body in
+    leftFrom streamKind (length bytes) (streamsStart body) bytes

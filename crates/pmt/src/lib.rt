@@ -25,9 +25,12 @@ pub struct StreamInfo {
     pub info: Place,
 }
 
-// The stream and the position behind it, or 23, 24, 26.
+// The stream and the position behind it; 27 or 28, and the offset in the body of the entry of which under 5 bytes are left, or whose info passes the end;
+// or 23, 26.
 pub enum StreamAnswer {
     Is { stream: StreamInfo, next: usize },
+    Under5 { offset: usize },
+    InfoPastEnd { offset: usize },
     Refused(Refusal),
 }
 
@@ -76,12 +79,12 @@ impl PmtSection {
         }
         let left = body.len() - position;
         if left < StreamInfo::HEADER_SIZE {
-            return StreamAnswer::Refused(Refusal::NoEntryFits);
+            return StreamAnswer::Under5 { offset: position };
         }
         let bits = word(body, position, StreamInfo::HEADER_SIZE);
         let es_info_length = (bits % 4096) as usize;
         if left - StreamInfo::HEADER_SIZE < es_info_length {
-            return StreamAnswer::Refused(Refusal::NoEntryFits);
+            return StreamAnswer::InfoPastEnd { offset: position };
         }
         let stream_type = ((bits >> 32) % 256) as u8;
         let elementary_pid = ((bits >> 16) % 8192) as u16;

@@ -1,3 +1,4 @@
 pub mod Sections
 pub mod Walks
+pub mod AsBefore
 pub mod Determined

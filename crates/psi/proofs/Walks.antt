@@ -9,13 +9,14 @@ use lib.ListN.{length, drop, length-drop}
 use lib.Seq.{drop-drop}
 use Rattle.fields.specs.Choice.{if_then_else_, _is_}
 use Rattle.fields.proofs.Choices.{test-holds, test-fails}
-use Rattle.answers.specs.Numbers.{walkAtEnd, noEntryFits, positionAboveLength}
+use Rattle.answers.specs.Numbers.{walkAtEnd, positionAboveLength}
 use Rattle.answers.specs.Says.{Says, given, refused}
-use Rattle.psi.specs.Walk.{Kind, Found, nothing, foundAt, entriesIn, leftBehind, Walked, got, endedBy, walked, exactly}
+use Rattle.psi.specs.Walk.{Kind, Found, found, nothing, noneFitsAt, foundAt, entriesIn, leftBehind, leftFrom, Walked, got, endedBy, walked, exactly}
 
--- an entry that fits has two bytes or more, and they are there
+-- an entry that fits has two bytes or more, and they are there; what says why none does refuses
 pub record Fitting {Entry : Type 0} (kind : Kind Entry) : Type 0 where
   pub whole : (bytes : List ℕ) → kind .fits bytes ≡ true → (2 ≤ kind .size bytes) × (kind .size bytes ≤ length bytes)
+  pub refuses : (bytes : List ℕ) → kind .whyNot bytes ≡ 0 → ⊥
 
 -- by whether a test holds
 pub by-test : {A : Type 0} (t : Bool) → (t ≡ true → A) → (t ≡ false → A) → A
@@ -35,8 +36,8 @@ module _ {Entry : Type 0} (kind : Kind Entry) (body : List ℕ) (position : ℕ)
 
   found-before-end : position < length body
       → foundAt kind body position
-      ≡ (if not (kind .fits (drop position body)) then refused noEntryFits (nothing kind)
-      else given (record { entry = kind .entry position (drop position body); next = position + kind .size (drop position body) }))
+      ≡ (if not (kind .fits (drop position body)) then noneFitsAt kind position (kind .whyNot (drop position body))
+      else found (kind .entry position (drop position body)) (position + kind .size (drop position body)))
   unfolding foundAt
   found-before-end l =
       test-fails _ _ _ (le-ltb (length body) position (omega arith))
@@ -44,43 +45,58 @@ module _ {Entry : Type 0} (kind : Kind Entry) (body : List ℕ) (position : ℕ)
 
   pub found-entry : position < length body → kind .fits (drop position body) ≡ true
       → foundAt kind body position
-      ≡ given (record { entry = kind .entry position (drop position body); next = position + kind .size (drop position body) })
+      ≡ found (kind .entry position (drop position body)) (position + kind .size (drop position body))
   found-entry l f = found-before-end l ∙ test-fails _ _ _ (ap not f)
 
   pub found-none : position < length body → kind .fits (drop position body) ≡ false
-      → foundAt kind body position ≡ refused noEntryFits (nothing kind)
+      → foundAt kind body position ≡ noneFitsAt kind position (kind .whyNot (drop position body))
   found-none l f = found-before-end l ∙ test-holds _ _ _ (ap not f)
+
+-- ---- how a host's walk ends: with 23 where no bytes are left behind, else with why none fits into them and where they begin
+
+module _ {Entry : Type 0} (kind : Kind Entry) (entries : List Entry) (left : List ℕ) (from : ℕ) where
+  pub ends-at-end : length left ≡ 0
+      → (exactly kind entries left from .ended ≡ walkAtEnd) × (exactly kind entries left from .offset ≡ 0)
+  ends-at-end e = (test-holds _ _ _ (eq-eqb _ _ e), test-holds _ _ _ (eq-eqb _ _ e))
+
+  pub ends-before : (length left ≡ 0 → ⊥)
+      → (exactly kind entries left from .ended ≡ kind .whyNot left) × (exactly kind entries left from .offset ≡ from)
+  ends-before n = (test-fails _ _ _ (ne-eqb _ _ n), test-fails _ _ _ (ne-eqb _ _ n))
 
 -- ---- a host that asks once more
 
 module _ {Entry : Type 0} (ask : ℕ → Says (Found Entry)) (calls position : ℕ) where
-  walk-goes-on : (found : Found Entry) → ask position ≡ given found
-      → walked ask (suc calls) position ≡ got (found .entry) (walked ask calls (found .next))
+  walk-goes-on : (entry : Entry) (next : ℕ) → ask position ≡ found entry next
+      → walked ask (suc calls) position ≡ got entry (walked ask calls next)
   unfolding walked if_then_else_
-  walk-goes-on found e = rw e
+  walk-goes-on entry next e = rw e
 
-  walk-ends : (number : ℕ) (none : Found Entry) → (number ≡ 0 → ⊥) → ask position ≡ refused number none
-      → walked ask (suc calls) position ≡ endedBy number
+  walk-ends : (number : ℕ) (told : Found Entry) → (number ≡ 0 → ⊥) → ask position ≡ refused number told
+      → walked ask (suc calls) position ≡ endedBy number (told .offset)
   unfolding walked
-  walk-ends number none n e = rw e (test-fails _ _ _ (ne-eqb _ _ n))
+  walk-ends number told n e = rw e (test-fails _ _ _ (ne-eqb _ _ n))
 
 module _ {Entry : Type 0} (kind : Kind Entry) (fitting : Fitting kind) where
   -- ---- the loop
 
+  -- what is due to a host that walks it, in so many turns, from a position on
+  due : ℕ → ℕ → List ℕ → Walked Entry
+  due turns position bytes =
+      exactly kind (entriesIn kind turns position bytes) (leftBehind kind turns bytes) (leftFrom kind turns position bytes)
+
   -- where no entry fits it has none and leaves all
   loop-stops : (turns position : ℕ) (bytes : List ℕ) → kind .fits bytes ≡ false
-      → exactly (entriesIn kind turns position bytes) (leftBehind kind turns bytes) ≡ exactly [] bytes
-  unfolding entriesIn leftBehind
+      → due turns position bytes ≡ exactly kind [] bytes position
+  unfolding due entriesIn leftBehind leftFrom if_then_else_
   loop-stops zero position bytes f = refl
-  loop-stops (suc turns) position bytes f = ap₂ exactly (test-fails _ _ _ f) (test-fails _ _ _ f)
+  loop-stops (suc turns) position bytes f = rw f refl
 
   -- where one fits it has that one, and what the loop over the bytes behind has and leaves
   loop-turns : (turns position : ℕ) (bytes : List ℕ) → kind .fits bytes ≡ true
-      → exactly (entriesIn kind (suc turns) position bytes) (leftBehind kind (suc turns) bytes)
-      ≡ (let behind = drop (kind .size bytes) bytes in
-      exactly (kind .entry position bytes ∷ entriesIn kind turns (position + kind .size bytes) behind) (leftBehind kind turns behind))
-  unfolding entriesIn leftBehind
-  loop-turns turns position bytes f = ap₂ exactly (test-holds _ _ _ f) (test-holds _ _ _ f)
+      → due (suc turns) position bytes
+      ≡ got (kind .entry position bytes) (due turns (position + kind .size bytes) (drop (kind .size bytes) bytes))
+  unfolding due entriesIn leftBehind leftFrom if_then_else_
+  loop-turns turns position bytes f = rw f refl
 
   -- no entry fits into nothing
   none-in-nothing : (bytes : List ℕ) → length bytes ≡ 0 → kind .fits bytes ≡ false
@@ -116,50 +132,42 @@ module _ {Entry : Type 0} (kind : Kind Entry) (fitting : Fitting kind) where
   -- ---- the walk is the loop
 
   module _ (body : List ℕ) where
-    -- what is due to a host from a position on
-    due : ℕ → ℕ → Walked Entry
-    due turns position =
-        exactly (entriesIn kind turns position (drop position body)) (leftBehind kind turns (drop position body))
-
     -- at the end
     walk-at-end : (turns calls position : ℕ) → position ≡ length body
-        → walked (foundAt kind body) (suc calls) position ≡ due turns position
-    unfolding due
+        → walked (foundAt kind body) (suc calls) position ≡ due turns position (drop position body)
     walk-at-end turns calls position e =
         let empty : length (drop position body) ≡ 0 = simp length-drop (omega arith) in
         walk-ends (foundAt kind body) calls position walkAtEnd (nothing kind) (λ z. omega arith) (found-end kind body position e)
-        ∙ ap endedBy (sym (test-holds _ _ _ (eq-eqb _ _ empty)))
+        ∙ sym (ap₂ endedBy (test-holds _ _ _ (eq-eqb _ _ empty)) (test-holds _ _ _ (eq-eqb _ _ empty)))
         ∙ sym (loop-stops turns position (drop position body) (none-in-nothing (drop position body) empty))
 
     -- where no entry fits
     walk-stops : (turns calls position : ℕ) → position < length body → kind .fits (drop position body) ≡ false
-        → walked (foundAt kind body) (suc calls) position ≡ due turns position
-    unfolding due
+        → walked (foundAt kind body) (suc calls) position ≡ due turns position (drop position body)
     walk-stops turns calls position l f =
-        let some : length (drop position body) ≡ 0 → ⊥ = λ e. omega (arith, length-drop position body) in
-        walk-ends (foundAt kind body) calls position noEntryFits (nothing kind) (λ z. omega arith)
+        let bytes = drop position body in
+        let some : length bytes ≡ 0 → ⊥ = λ e. omega (arith, length-drop position body) in
+        walk-ends (foundAt kind body) calls position (kind .whyNot bytes) (noneFitsAt kind position (kind .whyNot bytes) .values)
+        (fitting .refuses bytes)
         (found-none kind body position l f)
-        ∙ ap endedBy (sym (test-fails _ _ _ (ne-eqb _ _ some)))
-        ∙ sym (loop-stops turns position (drop position body) f)
+        ∙ sym (ap₂ endedBy (test-fails _ _ _ (ne-eqb _ _ some)) (test-fails _ _ _ (ne-eqb _ _ some)))
+        ∙ sym (loop-stops turns position bytes f)
 
     -- where one fits and the rest of the walk is as due
     walk-goes-on-as-due : (turns calls position : ℕ) → position < length body → kind .fits (drop position body) ≡ true
-        → (let next = position + kind .size (drop position body) in walked (foundAt kind body) calls next ≡ due turns next)
-        → walked (foundAt kind body) (suc calls) position ≡ due (suc turns) position
-    unfolding due
+        → (let next = position + kind .size (drop position body) in
+        walked (foundAt kind body) calls next ≡ due turns next (drop next body))
+        → walked (foundAt kind body) (suc calls) position ≡ due (suc turns) position (drop position body)
     walk-goes-on-as-due turns calls position l f later =
         let bytes = drop position body in
-        let size = kind .size bytes in
-        let first = kind .entry position bytes in
-        let found : Found Entry = record { entry = first; next = position + size } in
-        walk-goes-on (foundAt kind body) calls position found (found-entry kind body position l f)
-        ∙ ap (got first)
-        (later ∙ ap (λ (b : List ℕ). exactly (entriesIn kind turns (position + size) b) (leftBehind kind turns b))
-        (sym (drop-drop size position body)))
+        let next = position + kind .size bytes in
+        walk-goes-on (foundAt kind body) calls position (kind .entry position bytes) next (found-entry kind body position l f)
+        ∙ ap (got (kind .entry position bytes))
+        (later ∙ ap (due turns next) (sym (drop-drop (kind .size bytes) position body)))
         ∙ sym (loop-turns turns position bytes f)
 
     walk-is-due : (turns calls position : ℕ) → position ≤ length body → length body - position ≤ turns → length body - position ≤ calls
-        → 0 < calls → walked (foundAt kind body) calls position ≡ due turns position
+        → 0 < calls → walked (foundAt kind body) calls position ≡ due turns position (drop position body)
     walk-is-due turns zero position h t c n = absurd (omega arith)
     walk-is-due zero (suc calls) position h t c n = walk-at-end zero calls position (omega arith)
     walk-is-due (suc turns) (suc calls) position h t c n =
@@ -177,12 +185,30 @@ module _ {Entry : Type 0} (kind : Kind Entry) (fitting : Fitting kind) where
         (λ f. walk-stops (suc turns) calls position l f))
 
     -- a host that may make as many calls as there are bytes from its first position on, and at least one, gets the entries of the loop over
-    -- them and then 23 or 24
+    -- them, and then 23, or why no entry fits into the bytes that the loop leaves and where these begin
     pub walk-is-the-loop : (position calls : ℕ) → position ≤ length body → 0 < calls → length (drop position body) ≤ calls
         → (let bytes = drop position body in
         walked (foundAt kind body) calls position
-        ≡ exactly (entriesIn kind (length bytes) position bytes) (leftBehind kind (length bytes) bytes))
+        ≡ exactly kind
+        (entriesIn kind (length bytes) position bytes)
+        (leftBehind kind (length bytes) bytes)
+        (leftFrom kind (length bytes) position bytes))
     unfolding due
     walk-is-the-loop position calls h n c =
         let len = length-drop position body in
         walk-is-due (length (drop position body)) calls position h (omega arith) (omega arith) n
+
+    -- what the loop leaves is what stands in the body from there on: its first byte is the first that is in no entry
+    pub left-from-there : (turns position : ℕ) → position ≤ length body
+        → (leftBehind kind turns (drop position body) ≡ drop (leftFrom kind turns position (drop position body)) body)
+        × (leftFrom kind turns position (drop position body) ≤ length body)
+    unfolding leftBehind leftFrom if_then_else_
+    left-from-there zero position h = (refl, h)
+    left-from-there (suc turns) position h =
+        by-test (kind .fits (drop position body))
+        (λ f.
+        let w = fitting .whole (drop position body) f in
+        let len = length-drop position body in
+        rw f (rw (drop-drop (kind .size (drop position body)) position body)
+        (left-from-there turns (position + kind .size (drop position body)) (omega arith))))
+        (λ f. rw f (refl, h))

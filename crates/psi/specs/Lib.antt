@@ -3,3 +3,4 @@ pub mod Header
 pub mod Place
 pub mod Body
 pub mod Walk
+pub mod WalkBefore

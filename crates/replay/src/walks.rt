@@ -123,6 +123,7 @@ fn put_program(
 ) -> Turn {
     match PatSection::program_at(body, position) {
         ProgramAnswer::Refused(refusal) => ends(line::put_refusal(page, end, refusal)),
+        ProgramAnswer::Tail { offset } => put_stop(is_shown, Answer::PAT_TAIL, offset, page, end),
         ProgramAnswer::Is { program, next } => {
             if is_shown {
                 return goes_on(put_shown_program(program, page, end), next);
@@ -174,6 +175,12 @@ fn put_stream(
 ) -> Turn {
     match PmtSection::stream_at(body, position) {
         StreamAnswer::Refused(refusal) => ends(line::put_refusal(page, end, refusal)),
+        StreamAnswer::Under5 { offset } => {
+            put_stop(is_shown, Answer::STREAM_UNDER_5, offset, page, end)
+        }
+        StreamAnswer::InfoPastEnd { offset } => {
+            put_stop(is_shown, Answer::INFO_PAST_END, offset, page, end)
+        }
         StreamAnswer::Is { stream, next } => {
             let numbers = [
                 GIVEN,
@@ -189,6 +196,21 @@ fn put_stream(
             goes_on(line::put_numbers(page, end, &numbers), next)
         }
     }
+}
+
+// Why no entry fits, and the offset of what is left.
+fn put_stop(
+    is_shown: bool,
+    answer: u8,
+    offset: usize,
+    page: &mut [u8; line::PAGE],
+    end: usize,
+) -> Turn {
+    let numbers = [answer as u64, offset as u64];
+    if is_shown {
+        return ends(line::put_numbers(page, end, &numbers[..1]));
+    }
+    ends(line::put_numbers(page, end, &numbers))
 }
 
 // The PMT's start; the walk of its streams goes on where it says.

@@ -42,8 +42,11 @@ pub fn put_heading(pid: u16, form: u64) -> u64 {
 }
 
 pub fn put_refused(packet: u64, answer: u8) -> u64 {
-    let numbers = [packet, answer as u64, answer as u64];
-    put_with_meaning(b"refused ##########  #: @\n", &numbers)
+    put_with_meaning(
+        b"refused ##########  #: @\n",
+        &[packet, answer as u64],
+        answer,
+    )
 }
 
 pub fn put_skipped(packet: u64, bytes: u64) -> u64 {
@@ -177,6 +180,7 @@ fn put_entry(table_id: u8, body: &[u8], position: usize) -> usize {
 fn put_program_at(body: &[u8], position: usize) -> usize {
     match PatSection::program_at(body, position) {
         ProgramAnswer::Refused(refusal) => end(position, refusal),
+        ProgramAnswer::Tail { offset } => stop(offset, Answer::PAT_TAIL),
         ProgramAnswer::Is { program, next } => {
             put_program(program);
             next
@@ -187,6 +191,8 @@ fn put_program_at(body: &[u8], position: usize) -> usize {
 fn put_stream_at(body: &[u8], position: usize) -> usize {
     match PmtSection::stream_at(body, position) {
         StreamAnswer::Refused(refusal) => end(position, refusal),
+        StreamAnswer::Under5 { offset } => stop(offset, Answer::STREAM_UNDER_5),
+        StreamAnswer::InfoPastEnd { offset } => stop(offset, Answer::INFO_PAST_END),
         StreamAnswer::Is { stream, next } => {
             put_stream(stream);
             next
@@ -194,15 +200,22 @@ fn put_stream_at(body: &[u8], position: usize) -> usize {
     }
 }
 
-// A walk that stops before the body's end says where and why.
+// A walk that is at the body's end is silent.
 fn end(position: usize, refusal: Refusal) -> usize {
     let answer = refusal.number();
-    if answer != Answer::WALK_AT_END {
-        put_with_meaning(
-            b"  stopped at byte # of the body, #: @\n",
-            &[position as u64, answer as u64, answer as u64],
-        );
+    if answer == Answer::WALK_AT_END {
+        return NOWHERE;
     }
+    stop(position, answer)
+}
+
+// One that stops before says where and why.
+fn stop(offset: usize, answer: u8) -> usize {
+    put_with_meaning(
+        b"  stopped at byte # of the body, #: @\n",
+        &[offset as u64, answer as u64],
+        answer,
+    );
     NOWHERE
 }
 

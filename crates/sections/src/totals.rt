@@ -1,23 +1,23 @@
-// How often a step gave each answer, by the answer's number; behind them the other totals.
+// How often a step gave each answer, by the answer's number, with a place for every number of a byte; behind them the other totals.
 use crate::line_forms::put;
 use crate::names::put_with_meaning;
 use answers::Answer;
 
-pub const REFUSED: usize = 27;
+pub const REFUSED: usize = 256;
 
-pub const PACKETS: usize = 28;
+pub const PACKETS: usize = 257;
 
-pub const OF_PID: usize = 29;
+pub const OF_PID: usize = 258;
 
-pub const SKIPPED: usize = 30;
+pub const SKIPPED: usize = 259;
 
-pub const REST: usize = 31;
+pub const REST: usize = 260;
 
-pub const KEPT: usize = 32;
+pub const KEPT: usize = 261;
 
-pub const NOT_WRITTEN: usize = 33;
+pub const NOT_WRITTEN: usize = 262;
 
-pub const COUNT: usize = 34;
+pub const COUNT: usize = 263;
 
 pub fn of(sums: &[u64], at: usize) -> u64 {
     if at < sums.len() {
@@ -83,16 +83,16 @@ fn put_some(form: &[u8], sums: &[u64], at: usize) {
 }
 
 fn put_refused(sums: &[u64]) {
-    let mut answer = Answer::PACKET_SIZE;
-    while answer <= Answer::POSITION_ABOVE_LENGTH {
-        put_refused_by(answer, of(sums, answer as usize));
+    let mut answer = Answer::PACKET_SIZE as usize;
+    while answer < REFUSED {
+        put_refused_by(answer as u8, of(sums, answer));
         answer += 1;
     }
 }
 
 fn put_refused_by(answer: u8, total: u64) {
     if total != 0 {
-        let numbers = [total, answer as u64, answer as u64];
-        put_with_meaning(b"total   ##########  refused, #: @\n", &numbers);
+        let numbers = [total, answer as u64];
+        put_with_meaning(b"total   ##########  refused, #: @\n", &numbers, answer);
     }
 }

@@ -53,9 +53,6 @@ enum-told-15 c = search needs
 enum-told-16 : tie.Need-enum-told-16
 enum-told-16 c = search needs
 
-enum-told-17 : tie.Need-enum-told-17
-enum-told-17 c = search needs
-
 returns : tie.Need-returns
 returns c = sym (ap numberOf (c .enum-told .given .1))
 
@@ -104,9 +101,6 @@ returns-15 c = sym (ap numberOf (c .enum-told15 .given .1))
 returns-16 : tie.Need-returns-16
 returns-16 c = sym (ap numberOf (c .enum-told16 .given .1))
 
-returns-17 : tie.Need-returns-17
-returns-17 c = sym (ap numberOf (c .enum-told17 .given .1))
-
 pub number-spec : {M : Type 1} → statement M
 number-spec =
     tie.close
@@ -127,7 +121,6 @@ number-spec =
     enum-told-14
     enum-told-15
     enum-told-16
-    enum-told-17
     returns
     returns-2
     returns-3
@@ -143,5 +136,4 @@ number-spec =
     returns-13
     returns-14
     returns-15
-    returns-16
-    returns-17)
+    returns-16)

@@ -5,7 +5,7 @@ use borrow.Author.Needs.{needs}
 use denote.Ref.{now}
 use Rattle.psi.proofs.Walks.{found-above, found-end}
 use Rattle.pat.specs.Programs.{programKind}
-use Rattle.pat.proofs.Programs.{no-program-found, network-found, program-found}
+use Rattle.pat.proofs.Programs.{tail-found, network-found, program-found}
 use Rattle.pat.proofs.PatSection.program_at.Statement.{statement}
 use Rattle.pat.proofs.PatSection.program_at.Tie as tie
 
@@ -21,7 +21,7 @@ sub-if3 c = search needs
 returns-3 : tie.Need-returns-3
 returns-3 c =
     let args = c .before .before .before .before .args in
-    sym (no-program-found (now (args .body)) (args .position) (omega arith) (omega arith))
+    sym (tail-found (now (args .body)) (args .position) (omega arith) (omega arith))
 
 word-requires : tie.Need-word-requires
 word-requires c κs = search needs

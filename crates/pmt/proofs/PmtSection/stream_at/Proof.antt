@@ -5,7 +5,7 @@ use borrow.Author.Needs.{needs}
 use denote.Ref.{now}
 use Rattle.psi.proofs.Walks.{found-above, found-end}
 use Rattle.pmt.specs.Streams.{streamKind}
-use Rattle.pmt.proofs.Streams.{no-stream-found, no-info-found, stream-found}
+use Rattle.pmt.proofs.Streams.{under-5-found, info-past-end-found, stream-found}
 use Rattle.pmt.proofs.PmtSection.stream_at.Statement.{statement}
 use Rattle.pmt.proofs.PmtSection.stream_at.Tie as tie
 
@@ -21,7 +21,7 @@ sub-left c = search needs
 returns-3 : tie.Need-returns-3
 returns-3 c =
     let args = c .before .before .before .before .args in
-    sym (no-stream-found (now (args .body)) (args .position) (omega arith) (omega arith))
+    sym (under-5-found (now (args .body)) (args .position) (omega arith) (omega arith))
 
 word-requires : tie.Need-word-requires
 word-requires c κs = search needs
@@ -30,7 +30,7 @@ returns-4 : tie.Need-returns-4
 returns-4 c =
     let args = c .before .before .before .before .before .before .args in
     let bits = c .before .word in
-    sym (no-info-found (now (args .body)) (args .position) (bits .result) (omega arith) (bits .ensures) (omega arith))
+    sym (info-past-end-found (now (args .body)) (args .position) (bits .result) (omega arith) (bits .ensures) (omega arith))
 
 cast-stream-type : tie.Need-cast-stream-type
 cast-stream-type c = search needs

@@ -5,10 +5,10 @@ use Rattle.sections.proofs.totals.put_refused.Statement.{statement}
 use Rattle.sections.proofs.totals.put_refused.Tie as tie
 
 abbrev Inv-loop : tie.InvT-loop
-Inv-loop sums answer₀ answer = answer ≤ 27
+Inv-loop sums answer₀ answer = answer ≤ 256
 
 abbrev μ-loop : tie.MeasureT-loop
-μ-loop sums answer₀ answer = 27 - answer
+μ-loop sums answer₀ answer = 256 - answer
 
 loop-holds : tie.Need-loop-holds Inv-loop μ-loop
 loop-holds c = search needs

@@ -1,0 +1,16 @@
+-- Walks as document 01 had them, before they said why no entry fits and where: what is to be seen is that nothing else changed.
+use Prim.Native.Nat.{ℕ, _+_}
+use mathlib.Core.Bool.{not}
+use mathlib.Core.List.{List}
+use lib.ListN.{length, drop}
+use Rattle.fields.specs.Choice.{if_then_else_, _is_, _isAbove_}
+use Rattle.answers.specs.Says.{Says, refused}
+use Rattle.psi.specs.Walk.{Kind, Found, found, nothing}
+
+-- "26 if above its length, then 23 if nothing is left"; "no entry fits here", 24 for every kind
+unfoldable pub foundBefore : {Entry : Type 0} → Kind Entry → List ℕ → ℕ → Says (Found Entry)
+foundBefore kind body position =
+    if position isAbove length body then refused 26 (nothing kind)
+    else if position is length body then refused 23 (nothing kind)
+    else if not (kind .fits (drop position body)) then refused 24 (nothing kind)
+    else found (kind .entry position (drop position body)) (position + kind .size (drop position body))
