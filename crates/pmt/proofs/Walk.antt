@@ -98,7 +98,7 @@ how-the-walk-ends body section start calls c =
     let there = left-at-streams-end body (start-given body section start .within) in
     let before = ends-before streamKind (streams body) left (streamsEnd body) in
     let at : (length left ≡ 0 → ⊥) → drop (exactly streamKind (streams body) left (streamsEnd body) .offset) body ≡ left =
-        λ some. ap (λ (n : ℕ). drop n body) (before some .1) ∙ there in
+    λ some. ap (λ (n : ℕ). drop n body) (before some .1) ∙ there in
     rw (host-gets-the-streams body section start calls c)
     (record {
       even = ends-at-end streamKind (streams body) left (streamsEnd body);

@@ -2,6 +2,7 @@
 // packet's, counted from 0. What answers how many writes failed answers it for its first line: an output that fails goes on failing.
 use crate::line_forms::put;
 use crate::line_forms::put_named;
+use crate::names::meaning_line;
 use crate::names::put_with_meaning;
 use crate::names::put_with_stream_type;
 use crate::names::put_with_table;
@@ -42,11 +43,8 @@ pub fn put_heading(pid: u16, form: u64) -> u64 {
 }
 
 pub fn put_refused(packet: u64, answer: u8) -> u64 {
-    put_with_meaning(
-        b"refused ##########  #: @\n",
-        &[packet, answer as u64],
-        answer,
-    )
+    let numbers = [packet, answer as u64, meaning_line(answer)];
+    put_with_meaning(b"refused ##########  #: @\n", &numbers)
 }
 
 pub fn put_skipped(packet: u64, bytes: u64) -> u64 {
@@ -213,8 +211,7 @@ fn end(position: usize, refusal: Refusal) -> usize {
 fn stop(offset: usize, answer: u8) -> usize {
     put_with_meaning(
         b"  stopped at byte # of the body, #: @\n",
-        &[offset as u64, answer as u64],
-        answer,
+        &[offset as u64, answer as u64, meaning_line(answer)],
     );
     NOWHERE
 }

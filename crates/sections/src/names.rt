@@ -21,39 +21,49 @@ pub fn table_line(table_id: u8) -> u64 {
     if table_id < 4 { table_id as u64 } else { 4 }
 }
 
-// With the meaning of an answer; the numbers are those before it.
-pub fn put_with_meaning(form: &[u8], numbers: &[u64], answer: u8) -> u64 {
+// With the meaning of an answer, a line for each number, and one for what is none.
+pub fn put_with_meaning(form: &[u8], numbers: &[u64]) -> u64 {
+    put_named(
+        form,
+        numbers,
+        b"nothing for this step\n\
+          bytes kept\n\
+          delivered\n\
+          packet not 188 bytes\n\
+          no 0x47 where a packet starts\n\
+          buffer not 1024 bytes\n\
+          packet without payload\n\
+          payload start is 188\n\
+          payload start above 188\n\
+          pointer beyond the rest of the payload\n\
+          under 3 bytes of a section\n\
+          syntax indicator not as the form needs it\n\
+          under 8 bytes of a section\n\
+          section length above 1021\n\
+          version repeated\n\
+          no section open\n\
+          whole section under 12 bytes\n\
+          CRC remainder not zero\n\
+          no adaptation field\n\
+          adaptation field length wrong\n\
+          flag of an optional part clear\n\
+          adaptation field ends before the part does\n\
+          PMT body too short\n\
+          walk at its end\n\
+          under 4 bytes of a PAT entry\n\
+          state not sound\n\
+          position above the body's length\n\
+          under 5 bytes of a stream entry\n\
+          stream info past the end of the body\n\
+          no answer of the table\n",
+    )
+}
+
+// The numbers have gaps: each run of them is an arm.
+pub fn meaning_line(answer: u8) -> u64 {
     match answer {
-        Answer::NOTHING_FOR_THIS_STEP => put_named(form, numbers, b"nothing for this step"),
-        Answer::BYTES_KEPT => put_named(form, numbers, b"bytes kept"),
-        Answer::DELIVERED => put_named(form, numbers, b"delivered"),
-        Answer::PACKET_SIZE => put_named(form, numbers, b"packet not 188 bytes"),
-        Answer::NO_SYNC_BYTE => put_named(form, numbers, b"no 0x47 where a packet starts"),
-        Answer::BUFFER_SIZE => put_named(form, numbers, b"buffer not 1024 bytes"),
-        Answer::NO_PAYLOAD => put_named(form, numbers, b"packet without payload"),
-        Answer::PAYLOAD_EMPTY => put_named(form, numbers, b"payload start is 188"),
-        Answer::PAYLOAD_BEYOND => put_named(form, numbers, b"payload start above 188"),
-        Answer::POINTER_BEYOND_REST => put_named(form, numbers, b"pointer beyond the rest of the payload"),
-        Answer::UNDER_3_BYTES => put_named(form, numbers, b"under 3 bytes of a section"),
-        Answer::SYNTAX_INDICATOR => put_named(form, numbers, b"syntax indicator not as the form needs it"),
-        Answer::UNDER_8_BYTES => put_named(form, numbers, b"under 8 bytes of a section"),
-        Answer::LENGTH_ABOVE_1021 => put_named(form, numbers, b"section length above 1021"),
-        Answer::VERSION_REPEATED => put_named(form, numbers, b"version repeated"),
-        Answer::NO_SECTION_OPEN => put_named(form, numbers, b"no section open"),
-        Answer::SECTION_UNDER_12 => put_named(form, numbers, b"whole section under 12 bytes"),
-        Answer::CRC_NOT_ZERO => put_named(form, numbers, b"CRC remainder not zero"),
-        Answer::NO_ADAPTATION_FIELD => put_named(form, numbers, b"no adaptation field"),
-        Answer::ADAPTATION_FIELD_LENGTH => put_named(form, numbers, b"adaptation field length wrong"),
-        Answer::FLAG_CLEAR => put_named(form, numbers, b"flag of an optional part clear"),
-        Answer::FIELD_ENDS_BEFORE => put_named(form, numbers, b"adaptation field ends before the part does"),
-        Answer::PMT_TOO_SHORT => put_named(form, numbers, b"PMT body too short"),
-        Answer::WALK_AT_END => put_named(form, numbers, b"walk at its end"),
-        Answer::PAT_TAIL => put_named(form, numbers, b"under 4 bytes of a PAT entry"),
-        Answer::STATE_NOT_SOUND => put_named(form, numbers, b"state not sound"),
-        Answer::POSITION_ABOVE_LENGTH => put_named(form, numbers, b"position above the body's length"),
-        Answer::STREAM_UNDER_5 => put_named(form, numbers, b"under 5 bytes of a stream entry"),
-        Answer::INFO_PAST_END => put_named(form, numbers, b"stream info past the end of the body"),
-        _ => put_named(form, numbers, b"no answer of the table"),
+        Answer::NOTHING_FOR_THIS_STEP..=Answer::INFO_PAST_END => answer as u64,
+        _ => 29,
     }
 }
 

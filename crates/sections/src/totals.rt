@@ -1,5 +1,6 @@
 // How often a step gave each answer, by the answer's number, with a place for every number of a byte; behind them the other totals.
 use crate::line_forms::put;
+use crate::names::meaning_line;
 use crate::names::put_with_meaning;
 use answers::Answer;
 
@@ -92,7 +93,7 @@ fn put_refused(sums: &[u64]) {
 
 fn put_refused_by(answer: u8, total: u64) {
     if total != 0 {
-        let numbers = [total, answer as u64];
-        put_with_meaning(b"total   ##########  refused, #: @\n", &numbers, answer);
+        let numbers = [total, answer as u64, meaning_line(answer)];
+        put_with_meaning(b"total   ##########  refused, #: @\n", &numbers);
     }
 }

@@ -10,11 +10,14 @@ Inv-loop sums answer₀ answer = answer ≤ 256
 abbrev μ-loop : tie.MeasureT-loop
 μ-loop sums answer₀ answer = 256 - answer
 
+cast-answer : tie.Need-cast-answer Inv-loop μ-loop
+cast-answer c = search needs
+
 loop-holds : tie.Need-loop-holds Inv-loop μ-loop
 loop-holds c = search needs
 
-cast-of : tie.Need-cast-of Inv-loop μ-loop
-cast-of c = search needs
+cast-put-refused-by : tie.Need-cast-put-refused-by Inv-loop μ-loop
+cast-put-refused-by c = search needs
 
 of-requires : tie.Need-of-requires Inv-loop μ-loop
 of-requires c κs = search needs
@@ -40,8 +43,9 @@ put-refused-spec =
     (tie.spec
     Inv-loop
     μ-loop
+    cast-answer
     loop-holds
-    cast-of
+    cast-put-refused-by
     of-requires
     put-refused-by-requires
     add-answer
