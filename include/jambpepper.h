@@ -63,9 +63,11 @@ enum {
   JAMBPEPPER_FIELD_ENDS_BEFORE = 21,       /* field ends before the part does */
   JAMBPEPPER_PMT_TOO_SHORT = 22,           /* PMT body too short; needed and actual are told */
   JAMBPEPPER_WALK_AT_END = 23,             /* walk at its end */
-  JAMBPEPPER_NO_ENTRY_FITS = 24,           /* no entry fits here; the walk ends */
+  JAMBPEPPER_PAT_TAIL = 24,                /* under 4 bytes left of a PAT; the offset is told */
   JAMBPEPPER_STATE_NOT_SOUND = 25,         /* state not sound */
-  JAMBPEPPER_POSITION_ABOVE_LENGTH = 26    /* position above the body's length */
+  JAMBPEPPER_POSITION_ABOVE_LENGTH = 26,   /* position above the body's length */
+  JAMBPEPPER_STREAM_UNDER_5 = 27,          /* under 5 bytes left of a PMT; the offset is told */
+  JAMBPEPPER_INFO_PAST_END = 28            /* stream info past the body's end; the offset is told */
 };
 
 /* ---- sizes */
@@ -176,10 +178,12 @@ JambpepperPart jambpepper_body(const uint8_t *section, size_t section_length);
 uint32_t jambpepper_sum32(const uint8_t *data, size_t data_length);
 
 /* ---- the walks: start at 0, or where a PMT's streams start, and hand each
- * `next` back, until the answer is not 0 */
+ * `next` back, until the answer is not 0: 23 at the end, or, where bytes are
+ * left that are no entry, 24, 27 or 28 with their `offset` in the body */
 
 typedef struct {
   size_t next;
+  size_t offset;           /* where the entry stands that does not fit: told by 24, else 0 */
   uint16_t program_number; /* 0 for the network */
   uint16_t pid;
   uint8_t answer; /* 0, 23, 24, 26 */
@@ -199,9 +203,10 @@ typedef struct {
   size_t info_start;
   size_t info_length;
   size_t next;
+  size_t offset; /* where the entry stands that does not fit: told by 27 and 28, else 0 */
   uint16_t elementary_pid;
   uint8_t stream_type;
-  uint8_t answer; /* 0, 23, 24, 26 */
+  uint8_t answer; /* 0, 23, 26, 27, 28 */
 } JambpepperStream;
 
 JambpepperProgram jambpepper_program_at(const uint8_t *body, size_t body_length, size_t position);

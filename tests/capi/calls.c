@@ -261,6 +261,30 @@ static void sums(void) {
   SAME(jambpepper_sum32(BYTES("\xff\xff\xff\xff")), 0); /* case 13 */
 }
 
+/* this answer, this offset and no entry */
+static void no_program(int line, JambpepperProgram program, uint8_t answer, size_t offset) {
+  compare(line, "program.answer", program.answer, answer);
+  compare(line, "program.offset", program.offset, offset);
+  compare(line, "program.next", program.next, 0);
+  compare(line, "program.program_number", program.program_number, 0);
+  compare(line, "program.pid", program.pid, 0);
+}
+
+static void no_stream(int line, JambpepperStream stream, uint8_t answer, size_t offset) {
+  compare(line, "stream.answer", stream.answer, answer);
+  compare(line, "stream.offset", stream.offset, offset);
+  compare(line, "stream.info_start", stream.info_start, 0);
+  compare(line, "stream.info_length", stream.info_length, 0);
+  compare(line, "stream.next", stream.next, 0);
+  compare(line, "stream.elementary_pid", stream.elementary_pid, 0);
+  compare(line, "stream.stream_type", stream.stream_type, 0);
+}
+
+#define NO_PROGRAM(text, position, answer, offset)                                                 \
+  no_program(__LINE__, jambpepper_program_at(BYTES(text), position), answer, offset)
+#define NO_STREAM(text, position, answer, offset)                                                  \
+  no_stream(__LINE__, jambpepper_stream_at(BYTES(text), position), answer, offset)
+
 static void programs(void) {
   JambpepperProgram program;
 
@@ -269,17 +293,23 @@ static void programs(void) {
   SAME(program.program_number, 1);
   SAME(program.pid, 256);
   SAME(program.next, 4);
+  SAME(program.offset, 0);
   program = jambpepper_program_at(BYTES("\x00\x01\xe1\x00\x00\x00\xe0\x10"), 4);
+  SAME(program.answer, 0);
   SAME(program.program_number, 0);
   SAME(program.pid, 16);
   SAME(program.next, 8);
+  SAME(program.offset, 0);
 
-  program = jambpepper_program_at(BYTES("\x00\x01\xe1"), 0);
-  SAME(program.answer, JAMBPEPPER_NO_ENTRY_FITS);
-  SAME(program.next, 0);
-  SAME(jambpepper_program_at(BYTES(""), 0).answer, JAMBPEPPER_WALK_AT_END);
-  SAME(jambpepper_program_at(BYTES(""), 1).answer, JAMBPEPPER_POSITION_ABOVE_LENGTH);
-  SAME(jambpepper_program_at(BYTES(""), SIZE_MAX).answer, JAMBPEPPER_POSITION_ABOVE_LENGTH);
+  NO_PROGRAM("\x00\x01\xe1", 0, JAMBPEPPER_PAT_TAIL, 0);
+  NO_PROGRAM("\x00\x01\xe1\x00\x00", 4, JAMBPEPPER_PAT_TAIL, 4);
+  NO_PROGRAM("\x00\x01\xe1\x00\x00\x02\xe2", 4, JAMBPEPPER_PAT_TAIL, 4);
+  NO_PROGRAM("\x00\x01\xe1\x00", 1, JAMBPEPPER_PAT_TAIL, 1);
+  NO_PROGRAM("\x00\x01\xe1\x00", 4, JAMBPEPPER_WALK_AT_END, 0);
+  NO_PROGRAM("\x00\x01\xe1\x00", 5, JAMBPEPPER_POSITION_ABOVE_LENGTH, 0);
+  NO_PROGRAM("", 0, JAMBPEPPER_WALK_AT_END, 0);
+  NO_PROGRAM("", 1, JAMBPEPPER_POSITION_ABOVE_LENGTH, 0);
+  NO_PROGRAM("", SIZE_MAX, JAMBPEPPER_POSITION_ABOVE_LENGTH, 0);
 }
 
 static void maps(void) {
@@ -313,17 +343,31 @@ static void maps(void) {
   SAME(stream.info_start, 5);
   SAME(stream.info_length, 0);
   SAME(stream.next, 5);
+  SAME(stream.offset, 0);
+  /* its info ends with the body */
   stream = jambpepper_stream_at(BYTES("\x00\x0f\xe1\x02\xf0\x03\x07\x08\x09"), 1);
+  SAME(stream.answer, 0);
   SAME(stream.stream_type, 15);
   SAME(stream.elementary_pid, 258);
   SAME(stream.info_start, 6);
   SAME(stream.info_length, 3);
   SAME(stream.next, 9);
-  stream = jambpepper_stream_at(BYTES("\x0f\xe1\x02\xf0\x03\x07\x08"), 0);
-  SAME(stream.answer, JAMBPEPPER_NO_ENTRY_FITS);
-  SAME(stream.stream_type, 0);
-  SAME(jambpepper_stream_at(BYTES(""), 0).answer, JAMBPEPPER_WALK_AT_END);
-  SAME(jambpepper_stream_at(BYTES(""), 1).answer, JAMBPEPPER_POSITION_ABOVE_LENGTH);
+  SAME(stream.offset, 0);
+}
+
+static void streams_that_do_not_fit(void) {
+  NO_STREAM("\x0f\xe1\x02\xf0\x03\x07\x08", 0, JAMBPEPPER_INFO_PAST_END, 0);
+  /* behind a stream: five bytes left, four, one, none */
+  NO_STREAM("\x1b\xe1\x01\xf0\x00\x0f\xe1\x02\xf0\x01", 5, JAMBPEPPER_INFO_PAST_END, 5);
+  NO_STREAM("\x1b\xe1\x01\xf0\x00\x0f\xe1\x02\xf0", 5, JAMBPEPPER_STREAM_UNDER_5, 5);
+  NO_STREAM("\x1b\xe1\x01\xf0\x00\x0f", 5, JAMBPEPPER_STREAM_UNDER_5, 5);
+  NO_STREAM("\x1b\xe1\x01\xf0\x00", 5, JAMBPEPPER_WALK_AT_END, 0);
+  /* within a stream, and beyond the body */
+  NO_STREAM("\x1b\xe1\x01\xf0\x01\x07", 1, JAMBPEPPER_INFO_PAST_END, 1);
+  NO_STREAM("\x1b\xe1\x01\xf0\x00", 1, JAMBPEPPER_STREAM_UNDER_5, 1);
+  NO_STREAM("\x1b\xe1\x01\xf0\x00", 6, JAMBPEPPER_POSITION_ABOVE_LENGTH, 0);
+  NO_STREAM("", 0, JAMBPEPPER_WALK_AT_END, 0);
+  NO_STREAM("", 1, JAMBPEPPER_POSITION_ABOVE_LENGTH, 0);
 }
 
 static void same_reader(int line, JambpepperReader answered, uint8_t form, uint8_t known,
@@ -594,19 +638,8 @@ static void a_section_of_nothing(void) {
 
 /* both walks answer this at this position of nothing, and no entry */
 static void no_entry(int line, size_t position, uint8_t answer) {
-  JambpepperProgram program = jambpepper_program_at(NOTHING, position);
-  JambpepperStream stream = jambpepper_stream_at(NOTHING, position);
-
-  compare(line, "program.answer", program.answer, answer);
-  compare(line, "program.next", program.next, 0);
-  compare(line, "program.program_number", program.program_number, 0);
-  compare(line, "program.pid", program.pid, 0);
-  compare(line, "stream.answer", stream.answer, answer);
-  compare(line, "stream.info_start", stream.info_start, 0);
-  compare(line, "stream.info_length", stream.info_length, 0);
-  compare(line, "stream.next", stream.next, 0);
-  compare(line, "stream.elementary_pid", stream.elementary_pid, 0);
-  compare(line, "stream.stream_type", stream.stream_type, 0);
+  no_program(line, jambpepper_program_at(NOTHING, position), answer, 0);
+  no_stream(line, jambpepper_stream_at(NOTHING, position), answer, 0);
 }
 
 static void a_body_of_nothing(void) {
@@ -694,6 +727,7 @@ int main(void) {
   sums();
   programs();
   maps();
+  streams_that_do_not_fit();
   states();
   unsound_states();
   starts();

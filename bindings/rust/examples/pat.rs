@@ -16,7 +16,7 @@ fn line_of(section: &[u8]) -> Result<String, Refusal> {
                 program_number,
                 pid,
             }) => format!(", {program_number} on {pid}"),
-            Err(refusal) => format!(", broken off with answer {}", refusal.number()),
+            Err(refusal) => format!(", broken off with answer {}: {refusal}", refusal.number()),
         };
     }
     Ok(line)

@@ -85,6 +85,7 @@ pub struct JambpepperTableHeader {
 #[derive(Clone, Copy, Debug, Default, PartialEq, Eq)]
 pub struct JambpepperProgram {
     pub next: usize,
+    pub offset: usize,
     pub program_number: u16,
     pub pid: u16,
     pub answer: u8,
@@ -108,6 +109,7 @@ pub struct JambpepperStream {
     pub info_start: usize,
     pub info_length: usize,
     pub next: usize,
+    pub offset: usize,
     pub elementary_pid: u16,
     pub stream_type: u8,
     pub answer: u8,

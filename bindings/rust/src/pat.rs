@@ -1,5 +1,9 @@
 //! The programs of a PAT.
-use crate::{calls, refusal::given, Refusal};
+use crate::{
+    calls,
+    refusal::{given_or_told, Told},
+    Refusal,
+};
 
 /// An entry of a PAT.
 #[derive(Clone, Copy, Debug, PartialEq, Eq, Hash)]
@@ -14,7 +18,7 @@ pub enum ProgramDescriptor {
     },
 }
 
-/// The entry at a position of a PAT's body, and the position behind it. Refused with 23, 24, 26.
+/// The entry at a position of a PAT's body, and the position behind it. Refused with 23, 24, 26; 24 tells the position.
 pub fn program_at(body: &[u8], position: usize) -> Result<(ProgramDescriptor, usize), Refusal> {
     let read = calls::program_at(body, position);
     let pid = read.pid;
@@ -25,10 +29,14 @@ pub fn program_at(body: &[u8], position: usize) -> Result<(ProgramDescriptor, us
             pid,
         },
     };
-    given(read.answer, (program, read.next))
+    let told = Told {
+        offset: read.offset,
+        ..Told::default()
+    };
+    given_or_told(read.answer, (program, read.next), told)
 }
 
-/// The entries of a PAT's body in order; where bytes are left over that are no entry, 24 is the last item.
+/// The entries of a PAT's body in order; where bytes are left over that are no entry, 24 is the last item and tells where.
 pub fn programs(body: &[u8]) -> Programs<'_> {
     Programs {
         body,
@@ -76,12 +84,22 @@ mod tests {
     #[test]
     fn refused() {
         assert_eq!(program_at(&[], 0), Err(Refusal::WalkAtEnd));
-        assert_eq!(program_at(&[0, 1, 0xe1], 0), Err(Refusal::NoEntryFits));
+        assert_eq!(program_at(&[0; 4], 4), Err(Refusal::WalkAtEnd));
         assert_eq!(program_at(&[], 1), Err(Refusal::PositionAboveLength));
         assert_eq!(
             program_at(&[0; 4], usize::MAX),
             Err(Refusal::PositionAboveLength)
         );
+    }
+
+    #[test]
+    fn tails() {
+        let tail = |offset| Err(Refusal::PatTail { offset });
+        assert_eq!(program_at(&[0, 1, 0xe1], 0), tail(0));
+        assert_eq!(program_at(&[0, 1, 0xe1, 0, 0], 4), tail(4));
+        // within an entry
+        assert_eq!(program_at(&[0, 1, 0xe1, 0], 1), tail(1));
+        assert_eq!(program_at(&[0, 1, 0xe1, 0], 3), tail(3));
     }
 
     #[test]
@@ -94,7 +112,7 @@ mod tests {
     fn a_walk_that_breaks_off() {
         let mut walk = programs(&[0, 1, 0xe1, 0, 0]);
         assert_eq!(walk.next(), Some(Ok(PROGRAM)));
-        assert_eq!(walk.next(), Some(Err(Refusal::NoEntryFits)));
+        assert_eq!(walk.next(), Some(Err(Refusal::PatTail { offset: 4 })));
         assert_eq!(walk.next(), None);
         assert_eq!(walk.next(), None);
     }

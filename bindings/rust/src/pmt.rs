@@ -1,7 +1,7 @@
 //! The start of a PMT and its streams.
 use crate::{
     calls,
-    refusal::{given, given_or_short},
+    refusal::{given_or_told, Told},
     Refusal,
 };
 
@@ -35,10 +35,16 @@ pub fn start(body: &[u8]) -> Result<PmtSection<'_>, Refusal> {
         streams: read.streams,
         body,
     };
-    given_or_short(read.answer, section, read.needed, read.actual)
+    let told = Told {
+        needed: read.needed,
+        actual: read.actual,
+        ..Told::default()
+    };
+    given_or_told(read.answer, section, told)
 }
 
-/// The stream at a position of a PMT's body, and the position behind it. Refused with 23, 24, 26.
+/// The stream at a position of a PMT's body, and the position behind it. Refused with 23, 26, 27, 28; 27 and 28 tell
+/// the position.
 ///
 /// The streams start at [`PmtSection::streams`]; another position reads what stands there.
 pub fn stream_at(body: &[u8], position: usize) -> Result<(StreamInfo<'_>, usize), Refusal> {
@@ -48,11 +54,15 @@ pub fn stream_at(body: &[u8], position: usize) -> Result<(StreamInfo<'_>, usize)
         elementary_pid: read.elementary_pid,
         info: &body[read.info_start..read.info_start + read.info_length],
     };
-    given(read.answer, (stream, read.next))
+    let told = Told {
+        offset: read.offset,
+        ..Told::default()
+    };
+    given_or_told(read.answer, (stream, read.next), told)
 }
 
 impl<'a> PmtSection<'a> {
-    /// The streams in order; where bytes are left over that are no entry, 24 is the last item.
+    /// The streams in order; where bytes are left over that are no entry, 27 or 28 is the last item and tells where.
     pub fn streams(&self) -> Streams<'a> {
         Streams {
             body: self.body,
@@ -122,9 +132,29 @@ mod tests {
 
     #[test]
     fn a_walk_that_breaks_off() {
-        let pmt = start(&BODY[..16]).unwrap();
-        let walk: Vec<_> = pmt.streams().skip(1).collect();
-        assert_eq!(walk, [Err(Refusal::NoEntryFits)]);
+        let last = |length| start(&BODY[..length]).unwrap().streams().last();
+        let offset = 6;
+        assert_eq!(last(6), None);
+        assert_eq!(last(7), Some(Err(Refusal::StreamUnder5 { offset })));
+        assert_eq!(last(10), Some(Err(Refusal::StreamUnder5 { offset })));
+        let offset = 11;
+        assert_eq!(last(12), Some(Err(Refusal::StreamUnder5 { offset })));
+        assert_eq!(last(15), Some(Err(Refusal::StreamUnder5 { offset })));
+        let mut walk = start(&BODY[..16]).unwrap().streams();
+        assert!(walk.next().unwrap().is_ok());
+        assert_eq!(walk.next(), Some(Err(Refusal::InfoPastEnd { offset })));
+        assert_eq!(walk.next(), None);
+        assert_eq!(walk.next(), None);
+    }
+
+    #[test]
+    fn a_position_that_is_no_entrys() {
+        let offset = 12;
+        let due = Refusal::InfoPastEnd { offset };
+        assert_eq!(stream_at(&BODY, offset), Err(due));
+        let offset = 13;
+        let due = Refusal::StreamUnder5 { offset };
+        assert_eq!(stream_at(&BODY, offset), Err(due));
     }
 
     #[test]

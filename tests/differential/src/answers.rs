@@ -7,8 +7,8 @@ pub const BUFFER_BYTES: usize = 1024;
 
 pub type Buffer = [u8; BUFFER_BYTES];
 
-/// The numbers of document 01's table of answers run from 0 to 26.
-pub const ANSWERS: usize = 27;
+/// A place for every number that an answer's byte can be.
+pub const ANSWERS: usize = 256;
 
 pub const FORMS: [(u8, &str); 3] = [(0, "COMPACT"), (1, "FULL"), (2, "ONCE")];
 pub const COMPACT: u8 = 0;
@@ -90,6 +90,7 @@ pub struct Program {
     pub number: u16,
     pub pid: u16,
     pub next: usize,
+    pub offset: usize,
 }
 
 #[derive(Clone, Copy, Debug, Default, PartialEq, Eq)]
@@ -111,6 +112,7 @@ pub struct Stream {
     pub info_start: usize,
     pub info_length: usize,
     pub next: usize,
+    pub offset: usize,
 }
 
 #[derive(Clone, Copy, Debug, Default, PartialEq, Eq)]
@@ -137,11 +139,26 @@ pub struct Step {
     pub place: Place,
 }
 
-/// A PAT walk: number and PID of each entry, and how it ends.
-pub type PatWalk = (Vec<(u16, u16)>, u8);
+/// A walk: its entries, the number that ended it and the offset told with that.
+#[derive(Debug, PartialEq, Eq)]
+pub struct Walk<T> {
+    pub entries: Vec<T>,
+    pub end: u8,
+    pub offset: usize,
+}
 
-/// A walk over a PMT's streams, and how it ends.
-pub type PmtWalk = (Vec<Stream>, u8);
+/// Number and PID of each entry.
+pub type PatWalk = Walk<(u16, u16)>;
+
+pub type PmtWalk = Walk<Stream>;
+
+/// The crate tells no offset: where its walk ends with 24, 27 or 28, it is the position that the walk came to.
+pub fn offset_told(end: u8, position: usize) -> usize {
+    match end {
+        24 | 27 | 28 => position,
+        _ => 0,
+    }
+}
 
 /// Every public call. The port and the model have all of them, for any bytes and any numbers.
 pub trait Calls {

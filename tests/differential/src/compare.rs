@@ -256,7 +256,11 @@ impl<'a> Comparison<'a> {
         loop {
             let entry = ask!(self, "PAT walk", program_at(body, position));
             if entry.answer != 0 {
-                return Ok((entries, entry.answer));
+                return Ok(Walk {
+                    entries,
+                    end: entry.answer,
+                    offset: entry.offset,
+                });
             }
             entries.push((entry.number, entry.pid));
             if entry.next <= position {
@@ -272,16 +276,18 @@ impl<'a> Comparison<'a> {
         let (true, Some(left)) = (self.beside_crate, body.get(position..)) else {
             return Ok(());
         };
-        let (entries, end) = crate_says("PAT walk", || rust_crate::pat(left))?;
-        let crate_entry = match entries.first() {
+        let walk = crate_says("PAT walk", || rust_crate::pat(left))?;
+        let crate_entry = match walk.entries.first() {
             Some(&(number, pid)) => Program {
                 answer: 0,
                 number,
                 pid,
                 next: position + 4,
+                offset: 0,
             },
             None => Program {
-                answer: end,
+                answer: walk.end,
+                offset: offset_told(walk.end, position),
                 ..Program::default()
             },
         };
@@ -305,10 +311,10 @@ impl<'a> Comparison<'a> {
             _ => None,
         };
         if self.beside_crate {
-            let (start, streams, end) = crate_says("PMT start", || rust_crate::pmt(body))?;
+            let (start, crate_walk) = crate_says("PMT start", || rust_crate::pmt(body))?;
             shown("PMT start", pmt, start)?;
             if let Some(walk) = walk {
-                shown("PMT walk", walk, (streams, end))?;
+                shown("PMT walk", walk, crate_walk)?;
             }
         }
         for &position in positions {
@@ -325,7 +331,11 @@ impl<'a> Comparison<'a> {
         loop {
             let entry = ask!(self, "PMT walk", stream_at(body, position));
             if entry.answer != 0 {
-                return Ok((entries, entry.answer));
+                return Ok(Walk {
+                    entries,
+                    end: entry.answer,
+                    offset: entry.offset,
+                });
             }
             entries.push(entry);
             if entry.next <= position {
@@ -342,15 +352,16 @@ impl<'a> Comparison<'a> {
             return Ok(());
         };
         let made = [&[0xE0, 0x00, 0xF0, 0x00], left].concat();
-        let (_, streams, end) = crate_says("PMT walk", || rust_crate::pmt(&made))?;
-        let crate_entry = match streams.first() {
+        let (_, walk) = crate_says("PMT walk", || rust_crate::pmt(&made))?;
+        let crate_entry = match walk.entries.first() {
             Some(stream) => Stream {
                 info_start: stream.info_start - 4 + position,
                 next: stream.next - 4 + position,
                 ..*stream
             },
             None => Stream {
-                answer: end,
+                answer: walk.end,
+                offset: offset_told(walk.end, position),
                 ..Stream::default()
             },
         };

@@ -445,20 +445,22 @@ impl Calls for Model {
     }
 
     fn program_at(&self, body: &[u8], position: usize) -> Program {
-        let answer = match left(body, position) {
-            Err(answer) => answer,
-            Ok(bytes) if bytes.len() < 4 => 24,
+        let (answer, offset) = match left(body, position) {
+            Err(answer) => (answer, 0),
+            Ok(bytes) if bytes.len() < 4 => (24, position),
             Ok(bytes) => {
                 return Program {
                     answer: 0,
                     number: bits(bytes, 0, 16) as u16,
                     pid: bits(bytes, 19, 13) as u16,
                     next: position + 4,
+                    offset: 0,
                 }
             }
         };
         Program {
             answer,
+            offset,
             ..Program::default()
         }
     }
@@ -487,10 +489,10 @@ impl Calls for Model {
     }
 
     fn stream_at(&self, body: &[u8], position: usize) -> Stream {
-        let answer = match left(body, position) {
-            Err(answer) => answer,
-            Ok(bytes) if bytes.len() < 5 => 24,
-            Ok(bytes) if bytes.len() < 5 + bits(bytes, 28, 12) as usize => 24,
+        let (answer, offset) = match left(body, position) {
+            Err(answer) => (answer, 0),
+            Ok(bytes) if bytes.len() < 5 => (27, position),
+            Ok(bytes) if bytes.len() < 5 + bits(bytes, 28, 12) as usize => (28, position),
             Ok(bytes) => {
                 let info_length = bits(bytes, 28, 12) as usize;
                 return Stream {
@@ -500,11 +502,13 @@ impl Calls for Model {
                     info_start: position + 5,
                     info_length,
                     next: position + 5 + info_length,
+                    offset: 0,
                 };
             }
         };
         Stream {
             answer,
+            offset,
             ..Stream::default()
         }
     }

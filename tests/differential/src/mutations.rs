@@ -59,17 +59,26 @@ enum Slip {
     BodyKeepsCrc,
     BodyOfTwelveRefused,
     ProgramPidTwelveBits,
-    NoEntryFitsIsEnd,
+    PatTailIsEnd,
+    PatOffsetInSection,
+    PatOffsetOfLastEntry,
+    PatEndTellsOffset,
     NextOneShort,
     NeededWithoutHeader,
     InfoLengthEightBits,
     DescriptorsOneLate,
+    StreamUnder5IsEnd,
+    StreamRefusalsSwapped,
+    InfoToTheEndRefused,
+    StreamOffsetInSection,
+    StreamOffsetOfLastEntry,
+    StreamEndTellsOffset,
     PositionAboveIsEnd,
 }
 use Slip::*;
 
 /// Every slip, and whether the Rust crate shows enough to notice it without the model.
-const SLIPS: [(Slip, bool); 55] = [
+const SLIPS: [(Slip, bool); 64] = [
     (TailPlaceOneLate, true),
     (HeadPlaceOneLate, true),
     (LengthOneShort, true),
@@ -119,11 +128,20 @@ const SLIPS: [(Slip, bool); 55] = [
     (BodyKeepsCrc, false),
     (BodyOfTwelveRefused, false),
     (ProgramPidTwelveBits, true),
-    (NoEntryFitsIsEnd, true),
+    (PatTailIsEnd, true),
+    (PatOffsetInSection, true),
+    (PatOffsetOfLastEntry, true),
+    (PatEndTellsOffset, true),
     (NextOneShort, true),
     (NeededWithoutHeader, true),
     (InfoLengthEightBits, true),
     (DescriptorsOneLate, true),
+    (StreamUnder5IsEnd, true),
+    (StreamRefusalsSwapped, true),
+    (InfoToTheEndRefused, true),
+    (StreamOffsetInSection, true),
+    (StreamOffsetOfLastEntry, true),
+    (StreamEndTellsOffset, true),
     (PositionAboveIsEnd, false),
 ];
 
@@ -315,7 +333,15 @@ impl Calls for Mutated<'_> {
         let mut program = self.side.program_at(body, position);
         match (self.slip, program.answer) {
             (ProgramPidTwelveBits, 0) => program.pid &= 0xFFF,
-            (NoEntryFitsIsEnd, 24) | (PositionAboveIsEnd, 26) => program.answer = 23,
+            (PatTailIsEnd, 24) | (PositionAboveIsEnd, 26) => {
+                program = Program {
+                    answer: 23,
+                    ..Program::default()
+                };
+            }
+            (PatOffsetInSection, 24) => program.offset += 8,
+            (PatOffsetOfLastEntry, 24) => program.offset = program.offset.saturating_sub(4),
+            (PatEndTellsOffset, 23) => program.offset = position,
             _ => {}
         }
         program
@@ -336,7 +362,24 @@ impl Calls for Mutated<'_> {
         match (self.slip, stream.answer) {
             (NextOneShort, 0) => stream.next -= 1,
             (InfoLengthEightBits, 0) => stream.info_length &= 0xFF,
-            (PositionAboveIsEnd, 26) => stream.answer = 23,
+            (StreamUnder5IsEnd, 27) | (PositionAboveIsEnd, 26) => {
+                stream = Stream {
+                    answer: 23,
+                    ..Stream::default()
+                };
+            }
+            (StreamRefusalsSwapped, 27 | 28) => stream.answer = 27 + 28 - stream.answer,
+            (InfoToTheEndRefused, 0) if stream.next == body.len() => {
+                stream = Stream {
+                    answer: 28,
+                    offset: position,
+                    ..Stream::default()
+                };
+            }
+            (StreamOffsetInSection, 27 | 28) => stream.offset += 8,
+            // as if that entry had no info
+            (StreamOffsetOfLastEntry, 27 | 28) => stream.offset = stream.offset.saturating_sub(5),
+            (StreamEndTellsOffset, 23) => stream.offset = position,
             _ => {}
         }
         stream

@@ -48,7 +48,7 @@ pub fn pat(_: &[u8]) -> PatWalk {
     not_here()
 }
 
-pub fn pmt(_: &[u8]) -> (Pmt, Vec<Stream>, u8) {
+pub fn pmt(_: &[u8]) -> (Pmt, PmtWalk) {
     not_here()
 }
 

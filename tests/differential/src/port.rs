@@ -163,6 +163,7 @@ impl Calls for Port {
             number: program.program_number,
             pid: program.pid,
             next: program.next,
+            offset: program.offset,
         }
     }
 
@@ -188,6 +189,7 @@ impl Calls for Port {
             info_start: stream.info_start,
             info_length: stream.info_length,
             next: stream.next,
+            offset: stream.offset,
         }
     }
 

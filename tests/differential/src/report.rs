@@ -58,7 +58,7 @@ pub const CALLS: [(&str, &[u8]); 18] = [
     ("CRC", &[0]),
     ("PAT walk", &[0, 23, 24, 26]),
     ("PMT start", &[0, 22]),
-    ("PMT walk", &[0, 23, 24, 26]),
+    ("PMT walk", &[0, 23, 26, 27, 28]),
     ("counter follows", &[0, 1]),
     ("is sound", &[0, 1]),
     // 0: nowhere, 2: the place
@@ -84,7 +84,7 @@ const fn same_text(first: &[u8], second: &[u8]) -> bool {
 }
 
 /// The answers that a step can give. Never: in the tail 10 to 14, which belong to a start; in the head 15, which belongs to a continuation;
-/// in COMPACT 12, 16 and 17, which ask for the long header and the CRC; 14 but in ONCE; 18 to 24 and 26, which belong to other calls.
+/// in COMPACT 12, 16 and 17, which ask for the long header and the CRC; 14 but in ONCE; 18 to 24 and 26 to 28, which belong to other calls.
 fn reachable(form: u8, step: usize) -> Vec<u8> {
     let mut answers = vec![0, 1, 2, 3, 4, 5, 6, 7, 8, 9, 25];
     match step {
@@ -109,7 +109,6 @@ fn shown_by_the_crate(answer: u8) -> bool {
 }
 
 /// Counted in every run; an intended difference is counted where it was met.
-#[derive(Default)]
 pub struct Counts {
     steps: [[[u64; ANSWERS]; 2]; 3],
     crate_steps: [[[u64; ANSWERS]; 2]; 3],
@@ -138,10 +137,24 @@ pub const SHORT_SECTION: usize = 3;
 pub const SHORT_TABLE: usize = 4;
 pub const EXTENSION: usize = 5;
 
+impl Default for Counts {
+    fn default() -> Counts {
+        Counts {
+            steps: [[[0; ANSWERS]; 2]; 3],
+            crate_steps: [[[0; ANSWERS]; 2]; 3],
+            calls: [[0; ANSWERS]; CALLS.len()],
+            dropped: [[0; 3]; 3],
+            packets: 0,
+            cases: 0,
+            intended: [0; INTENDED.len()],
+        }
+    }
+}
+
 impl Counts {
     pub fn step(&mut self, form: u8, step: usize, answer: u8) {
         if let Some(counts) = self.steps.get_mut(usize::from(form)) {
-            counts[step][usize::from(answer).min(ANSWERS - 1)] += 1;
+            counts[step][usize::from(answer)] += 1;
         }
     }
 
@@ -155,7 +168,7 @@ impl Counts {
     }
 
     pub fn call(&mut self, call: usize, answer: u8) {
-        self.calls[call][usize::from(answer).min(ANSWERS - 1)] += 1;
+        self.calls[call][usize::from(answer)] += 1;
     }
 
     pub fn intend(&mut self, which: usize) {

@@ -189,19 +189,19 @@ impl Sample {
 
     fn pat(&mut self, body: &[u8]) {
         self.request(&format!("pat {}", hexadecimal(body)));
-        let (entries, end) = rust_crate::pat(body);
+        let walk = rust_crate::pat(body);
         let mut words = String::new();
-        for (number, pid) in entries {
+        for (number, pid) in walk.entries {
             let _ = write!(words, "0 {number} {pid} ");
         }
-        let _ = write!(words, "{end}");
+        let _ = write!(words, "{}", walk.end);
         self.line(&words);
-        self.counts.call(call_index("PAT walk"), end);
+        self.counts.call(call_index("PAT walk"), walk.end);
     }
 
     fn pmt(&mut self, body: &[u8]) {
         self.request(&format!("pmt {}", hexadecimal(body)));
-        let (pmt, streams, end) = rust_crate::pmt(body);
+        let (pmt, walk) = rust_crate::pmt(body);
         self.counts.call(call_index("PMT start"), pmt.answer);
         if pmt.answer == 22 {
             self.line(&format!("22 {} {}", pmt.needed, pmt.actual));
@@ -209,14 +209,14 @@ impl Sample {
         }
         let (length, start) = (pmt.descriptors_length, pmt.streams);
         let mut words = format!("0 {} {length} {start}", pmt.pcr_pid);
-        for stream in streams {
+        for stream in walk.entries {
             let (kind, pid) = (stream.stream_type, stream.pid);
             let (start, length) = (stream.info_start, stream.info_length);
             let _ = write!(words, " 0 {kind} {pid} {start} {length}");
         }
-        let _ = write!(words, " {end}");
+        let _ = write!(words, " {}", walk.end);
         self.line(&words);
-        self.counts.call(call_index("PMT walk"), end);
+        self.counts.call(call_index("PMT walk"), walk.end);
     }
 
     /// Awkward packets in a random order, the longest section and one that is too long, and random streams.

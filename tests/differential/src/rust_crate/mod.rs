@@ -230,12 +230,17 @@ pub fn table_header(section: &[u8]) -> TableHeader {
     table_header_of(&TableSyntaxHeader::new(&section[3..8]))
 }
 
-/// How a walk ends: 23 in silence, 24 with a warning.
-fn walk_end() -> u8 {
-    match Said::take().answers() {
+/// The walk that gave these entries and came to this position. It ends with 23 in silence, with other numbers by a warning.
+fn ended<T>(entries: Vec<T>, position: usize) -> Walk<T> {
+    let end = match Said::take().answers() {
         [] => 23,
         [answer] => *answer,
         _ => warnings::UNKNOWN,
+    };
+    Walk {
+        entries,
+        end,
+        offset: offset_told(end, position),
     }
 }
 
@@ -249,7 +254,9 @@ pub fn pat(body: &[u8]) -> PatWalk {
             pid,
         } => (program_number, pid.into()),
     });
-    (entries.collect(), walk_end())
+    let entries: Vec<_> = entries.collect();
+    let position = 4 * entries.len();
+    ended(entries, position)
 }
 
 /// A descriptor that only tells where it lies.
@@ -300,7 +307,7 @@ fn loop_place(
 }
 
 /// A PMT body's start and, where that is given, its streams and how their walk ends.
-pub fn pmt(body: &[u8]) -> (Pmt, Vec<Stream>, u8) {
+pub fn pmt(body: &[u8]) -> (Pmt, PmtWalk) {
     Said::take();
     let pmt = match PmtSection::from_bytes(body) {
         Err(DemuxError::NotEnoughData {
@@ -312,7 +319,7 @@ pub fn pmt(body: &[u8]) -> (Pmt, Vec<Stream>, u8) {
                 actual,
                 ..Pmt::default()
             };
-            return (refused, Vec::new(), walk_end());
+            return (refused, ended(Vec::new(), 0));
         }
         Ok(pmt) => pmt,
     };
@@ -334,7 +341,7 @@ pub fn pmt(body: &[u8]) -> (Pmt, Vec<Stream>, u8) {
         stream
     });
     let entries = entries.collect();
-    (given, entries, walk_end())
+    (given, ended(entries, position))
 }
 
 fn stream(body: &[u8], position: usize, entry: &StreamInfo<'_>) -> Stream {
@@ -346,6 +353,7 @@ fn stream(body: &[u8], position: usize, entry: &StreamInfo<'_>) -> Stream {
         info_start: start,
         info_length: length,
         next: start + length,
+        offset: 0,
     }
 }
 

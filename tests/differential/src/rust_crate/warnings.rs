@@ -36,12 +36,12 @@ const TABLE: [(&str, u32, &str, u8); 21] = [
         "extends beyond end of PMT section",
         22,
     ),
-    ("src/psi/pmt.rs", 143, "bytes remaining for stream info", 24),
+    ("src/psi/pmt.rs", 143, "bytes remaining for stream info", 27),
     (
         "src/psi/pmt.rs",
         155,
         "is not large enough to contain es_info_length",
-        24,
+        28,
     ),
 ];
 
