@@ -63,11 +63,11 @@ enum {
   JAMBPEPPER_FIELD_ENDS_BEFORE = 21,       /* field ends before the part does */
   JAMBPEPPER_PMT_TOO_SHORT = 22,           /* PMT body too short; needed and actual are told */
   JAMBPEPPER_WALK_AT_END = 23,             /* walk at its end */
-  JAMBPEPPER_PAT_TAIL = 24,                /* under 4 bytes left of a PAT; the offset is told */
+  JAMBPEPPER_PAT_TAIL = 24,                /* under 4 bytes left for a program; offset is told */
   JAMBPEPPER_STATE_NOT_SOUND = 25,         /* state not sound */
   JAMBPEPPER_POSITION_ABOVE_LENGTH = 26,   /* position above the body's length */
-  JAMBPEPPER_STREAM_UNDER_5 = 27,          /* under 5 bytes left of a PMT; the offset is told */
-  JAMBPEPPER_INFO_PAST_END = 28            /* stream info past the body's end; the offset is told */
+  JAMBPEPPER_STREAM_UNDER_5 = 27,          /* under 5 bytes left for a stream; offset is told */
+  JAMBPEPPER_INFO_PAST_END = 28            /* stream info past the body's end; offset is told */
 };
 
 /* ---- sizes */

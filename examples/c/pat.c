@@ -25,9 +25,8 @@ static void print_pat(unsigned long packet_number, const uint8_t *section, size_
       printf(", %d on %d", program.program_number, program.pid);
     program = jambpepper_program_at(section + body.start, body.length, program.next);
   }
-  if (program.answer == JAMBPEPPER_PAT_TAIL)
-    printf(", broken off with answer %d: under 4 bytes of a PAT entry, at %zu of the body",
-           program.answer, program.offset);
+  if (program.answer != JAMBPEPPER_WALK_AT_END)
+    printf(", broken off with answer %d, at %zu of the body", program.answer, program.offset);
   printf("\n");
 }
 
