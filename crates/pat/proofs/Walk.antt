@@ -9,6 +9,8 @@ use lib.Seq.{drop-drop}
 use Rattle.fields.specs.Choice.{if_then_else_, _isAtMost_}
 use Rattle.answers.specs.Numbers.{walkAtEnd, patTail}
 use Rattle.psi.specs.Walk.{Walked, walked, exactly, entriesIn, leftBehind, leftFrom}
+use Rattle.psi.specs.WalkBefore.{foundBefore}
+use Rattle.psi.proofs.AsBefore.{same-entries}
 use Rattle.psi.proofs.Walks.{by-test, Fitting, walk-is-the-loop, entries-have-bytes, nothing-left-fits, ends-at-end, ends-before}
 use Rattle.pat.specs.declared.ProgramDescriptor.{ProgramDescriptor}
 use Rattle.pat.specs.Programs.{programOf, programKind, programAt, programs, behindPrograms, programsEnd}
@@ -32,6 +34,12 @@ pub within-as-many-calls-as-bytes : (body : List ℕ) (calls : ℕ) → 0 < leng
 within-as-many-calls-as-bytes body calls l c =
     rw (host-gets-the-programs body calls (omega arith) c)
     (omega (arith, entries-have-bytes programKind four-bytes (length body) 0 body))
+
+-- it gets every program that it got before walks said why they stop, in as many calls
+pub entries-as-before : (body : List ℕ) (calls position : ℕ)
+    → (walked (programAt body) calls position .entries ≡ walked (foundBefore programKind body) calls position .entries)
+    × (walked (programAt body) calls position .calls ≡ walked (foundBefore programKind body) calls position .calls)
+entries-as-before body calls position = same-entries programKind body four-bytes calls position
 
 -- ---- the programs are those of the standard's loop: for (i = 0; i < N; i++)
 

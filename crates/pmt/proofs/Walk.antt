@@ -9,6 +9,8 @@ use lib.ListN.{length, drop, length-drop}
 use Rattle.fields.proofs.Choices.{test-holds, and-holds, of-both}
 use Rattle.answers.specs.Numbers.{walkAtEnd, streamUnder5, infoPastEnd}
 use Rattle.psi.specs.Walk.{Walked, walked, exactly, entriesIn, leftBehind, leftFrom}
+use Rattle.psi.specs.WalkBefore.{foundBefore}
+use Rattle.psi.proofs.AsBefore.{same-entries}
 use Rattle.psi.proofs.Walks.{Fitting, walk-is-the-loop, entries-have-bytes, nothing-left-fits, left-from-there, ends-at-end, ends-before}
 use Rattle.pmt.specs.Start.{started, streamsStart, sectionOf, startOf}
 use Rattle.pmt.specs.Streams.{infoLength, streamKind, streamAt, streams, behindStreams, streamsEnd}
@@ -36,6 +38,12 @@ pub host-gets-what-stands-there : (body : List ℕ) (position calls : ℕ) → p
     (leftFrom streamKind (length bytes) position bytes))
 host-gets-what-stands-there body position calls h n c =
     walk-is-the-loop streamKind five-bytes body position calls h n (simp length-drop (omega arith))
+
+-- it gets every stream that it got before walks said why they stop, in as many calls
+pub entries-as-before : (body : List ℕ) (calls position : ℕ)
+    → (walked (streamAt body) calls position .entries ≡ walked (foundBefore streamKind body) calls position .entries)
+    × (walked (streamAt body) calls position .calls ≡ walked (foundBefore streamKind body) calls position .calls)
+entries-as-before body calls position = same-entries streamKind body five-bytes calls position
 
 -- the loop over the streams ends since none fits into what it leaves
 pub no-stream-behind-streams : (body : List ℕ) → streamKind .fits (behindStreams body) ≡ false

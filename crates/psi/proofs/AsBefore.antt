@@ -7,14 +7,14 @@ use borrow.Author.Tests.{ne-eqb}
 use lib.ListN.{length, drop}
 use Rattle.fields.specs.Choice.{if_then_else_, _is_, _isAbove_}
 use Rattle.psi.specs.Walk.{Kind, noneFitsAt, foundAt, walked}
-use Rattle.psi.specs.WalkBefore.{foundBefore}
+use Rattle.psi.specs.WalkBefore.{noEntryFits, foundBefore}
 use Rattle.psi.proofs.Walks.{by-test, Fitting}
 
 module _ {Entry : Type 0} (kind : Kind Entry) (body : List ℕ) where
   -- a call answers what it answered, save where that was 24
   pub only-24-changed : (position : ℕ)
       → foundAt kind body position
-      ≡ (if foundBefore kind body position .number is 24 then noneFitsAt kind position (kind .whyNot (drop position body))
+      ≡ (if foundBefore kind body position .number is noEntryFits then noneFitsAt kind position (kind .whyNot (drop position body))
       else foundBefore kind body position)
   unfolding foundAt foundBefore if_then_else_
   only-24-changed position =
