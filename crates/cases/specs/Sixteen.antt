@@ -3,7 +3,7 @@
 use Prim.Native.Nat.{ℕ}
 use mathlib.Core.Path.{_≡_, refl}
 use mathlib.Core.Bool.{true, false}
-use mathlib.Core.List.{List, [], _∷_, _++_}
+use mathlib.Core.List.{List, [], _∷_}
 use lib.ListN.{length, drop, replicate}
 use Rattle.fields.specs.Choice.{if_then_else_, _isAbove_}
 use Rattle.fields.specs.BitString.{lowBits, bitString, number, numberAt}

@@ -1,7 +1,6 @@
 -- The walks give every entry that they gave before they said why none fits. Assumes nothing.
 use Prim.Native.Nat.{ℕ, zero, suc, _+_}
-use mathlib.Core.Path.{_≡_, refl, sym, ap, _∙_}
-use mathlib.Core.Bool.{Bool, true, false, not}
+use mathlib.Core.Path.{_≡_, refl, ap}
 use mathlib.Core.List.{List, _∷_}
 use borrow.Author.Tests.{ne-eqb}
 use lib.ListN.{length, drop}

@@ -2,7 +2,7 @@
 use Prim.Native.Nat.{ℕ, zero, suc, _+_, _-_, _≤_, _<_}
 use mathlib.Core.Path.{_≡_, refl, sym, ap, ap₂, _∙_}
 use mathlib.Core.Bool.{Bool, true, false, not}
-use mathlib.Core.List.{List, [], _∷_}
+use mathlib.Core.List.{List, []}
 use native.Mathlib.Omega.{arith}
 use borrow.Author.Tests.{lt-ltb, le-ltb, eqb-true, eqb-false, eq-eqb, ne-eqb}
 use lib.ListN.{length, drop, length-drop}
@@ -10,7 +10,7 @@ use lib.Seq.{drop-drop}
 use Rattle.fields.specs.Choice.{if_then_else_, _is_}
 use Rattle.fields.proofs.Choices.{test-holds, test-fails}
 use Rattle.answers.specs.Numbers.{walkAtEnd, positionAboveLength}
-use Rattle.answers.specs.Says.{Says, given, refused}
+use Rattle.answers.specs.Says.{Says, refused}
 use Rattle.psi.specs.Walk.{Kind, Found, found, nothing, noneFitsAt, foundAt, entriesIn, leftBehind, leftFrom, Walked, got, endedBy, walked, exactly}
 
 -- an entry that fits has two bytes or more, and they are there; what says why none does refuses
