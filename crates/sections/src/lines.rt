@@ -135,16 +135,21 @@ fn put_body(table_id: u8, body: &[u8]) {
 fn put_map(body: &[u8]) {
     match PmtSection::start(body) {
         PmtAnswer::TooShort { needed, actual } => {
-            put(
-                b"  stopped at byte 0 of the body, 22: PMT body of # bytes, # are needed\n",
-                &[actual as u64, needed as u64],
-            );
+            put_too_short(needed as u64, actual as u64);
         }
         PmtAnswer::Is(map) => {
             put_clock(map);
             put_walk(PMT, body, map.streams);
         }
     }
+}
+
+fn put_too_short(needed: u64, actual: u64) -> u64 {
+    let answer = Answer::PMT_TOO_SHORT;
+    put_with_meaning(
+        b"  stopped at byte 0 of the body, #: @, # bytes of #\n",
+        &[answer as u64, meaning_line(answer), actual, needed],
+    )
 }
 
 fn put_clock(map: PmtSection) -> u64 {

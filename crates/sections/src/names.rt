@@ -59,7 +59,7 @@ pub fn put_with_meaning(form: &[u8], numbers: &[u64]) -> u64 {
     )
 }
 
-// The numbers have gaps: each run of them is an arm.
+// The line of its meaning. Behind a gap in the numbers the next run of them is another arm.
 pub fn meaning_line(answer: u8) -> u64 {
     match answer {
         Answer::NOTHING_FOR_THIS_STEP..=Answer::INFO_PAST_END => answer as u64,
