@@ -1,7 +1,7 @@
 -- What the walks say, as C sees it.
 use Prim.Native.Nat.{ℕ}
 use Rattle.answers.specs.Says.{Says}
-use Rattle.psi.specs.Walk.{Found, found, noneFitsAt}
+use Rattle.walks.specs.Walk.{Found, found, noneFitsAt}
 use Rattle.pat.specs.Programs.{programKind}
 use Rattle.pat.specs.declared.ProgramDescriptor.{ProgramDescriptor}
 use Rattle.pmt.specs.Start.{Start}

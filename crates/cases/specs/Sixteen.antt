@@ -18,7 +18,7 @@ use Rattle.adaptation.specs.AdaptationField.{noField, flagsOf, wherePresent, of
 use Rattle.adaptation_parts.specs.Parts.{part, pcrOf}
 use Rattle.psi.specs.Header.{sectionLength, lengthLimit, wanted, versionNumber, isCurrent, tableFieldsOf, tableHeaderOf}
 use Rattle.psi.specs.Header as section-header
-use Rattle.psi.specs.Walk.{found, foundAt}
+use Rattle.walks.specs.Walk.{found, foundAt}
 use Rattle.pat.specs.declared.ProgramDescriptor.the-variants.{Network, Program}
 use Rattle.pat.specs.Programs.{programOf, programAt}
 use Rattle.pmt.specs.Streams.{streamOf, streamAt}

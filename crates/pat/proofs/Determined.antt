@@ -6,7 +6,7 @@ use Rattle.fields.specs.Determines.{Determines}
 use Rattle.fields.proofs.Choices.{test-fails}
 use Rattle.answers.specs.Says.{Says}
 use Rattle.answers.proofs.RefusalNumbers.{numbered, numbered-number, no-refusal-is-0, no-refusal-is-24}
-use Rattle.psi.specs.Walk.{Found}
+use Rattle.walks.specs.Walk.{Found}
 use Rattle.pat.specs.Programs.{programSays}
 use Rattle.pat.specs.declared.ProgramDescriptor.{ProgramDescriptor}
 use Rattle.pat.specs.declared.ProgramAnswer.{ProgramAnswer}

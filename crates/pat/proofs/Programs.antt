@@ -13,8 +13,8 @@ use Rattle.fields.proofs.SyntaxTables.{field-of-word}
 use Rattle.fields.proofs.Choices.{test-holds, test-fails}
 use Rattle.answers.specs.Numbers.{patTail}
 use Rattle.answers.specs.Says.{Says}
-use Rattle.psi.specs.Walk.{Found, found, noneFitsAt}
-use Rattle.psi.proofs.Walks.{found-entry, found-none}
+use Rattle.walks.specs.Walk.{Found, found, noneFitsAt}
+use Rattle.walks.proofs.Walks.{found-entry, found-none}
 use Rattle.pat.specs.Syntax.{networkEntry, programEntry}
 use Rattle.pat.specs.Programs.{programOf, programKind, programAt}
 use Rattle.pat.specs.declared.ProgramDescriptor.{ProgramDescriptor}

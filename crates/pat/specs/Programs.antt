@@ -7,7 +7,7 @@ use Rattle.fields.specs.SyntaxTable.{field}
 use Rattle.answers.specs.Numbers.{patTail}
 use Rattle.answers.specs.Says.{Says, refused}
 use Rattle.answers.specs.Refusals.{numberOf}
-use Rattle.psi.specs.Walk.{Kind, Found, found, nothing, noneFitsAt, foundAt, entriesIn, leftBehind, leftFrom}
+use Rattle.walks.specs.Walk.{Kind, Found, found, nothing, noneFitsAt, foundAt, entriesIn, leftBehind, leftFrom}
 use Rattle.pat.specs.Syntax.{networkEntry, programEntry}
 use Rattle.pat.specs.declared.ProgramDescriptor.{ProgramDescriptor}
 use Rattle.pat.specs.declared.ProgramDescriptor.the-variants.{Network, Program}

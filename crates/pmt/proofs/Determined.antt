@@ -6,7 +6,7 @@ use Rattle.fields.specs.Determines.{Determines}
 use Rattle.fields.proofs.Choices.{test-fails}
 use Rattle.answers.specs.Says.{Says}
 use Rattle.answers.proofs.RefusalNumbers.{numbered, numbered-number, no-refusal-is-0, no-refusal-is-27, no-refusal-is-28}
-use Rattle.psi.specs.Walk.{Found}
+use Rattle.walks.specs.Walk.{Found}
 use Rattle.pmt.specs.Start.{Start, startSays}
 use Rattle.pmt.specs.Streams.{streamSays}
 use Rattle.pmt.specs.declared.StreamInfo.{StreamInfo}

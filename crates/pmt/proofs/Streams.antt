@@ -13,8 +13,8 @@ use Rattle.fields.specs.Word.{wordOf}
 use Rattle.fields.proofs.Choices.{test-holds, test-fails}
 use Rattle.fields.proofs.SyntaxTables.{field-of-word}
 use Rattle.answers.specs.Numbers.{streamUnder5, infoPastEnd}
-use Rattle.psi.specs.Walk.{found, noneFitsAt}
-use Rattle.psi.proofs.Walks.{found-entry, found-none}
+use Rattle.walks.specs.Walk.{found, noneFitsAt}
+use Rattle.walks.proofs.Walks.{found-entry, found-none}
 use Rattle.pmt.specs.Syntax.{streamHeader}
 use Rattle.pmt.specs.Streams.{infoLength, streamOf, whyNoStream, streamKind, streamAt}
 

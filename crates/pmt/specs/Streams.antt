@@ -8,7 +8,7 @@ use Rattle.answers.specs.Numbers.{streamUnder5, infoPastEnd}
 use Rattle.answers.specs.Says.{Says, refused}
 use Rattle.answers.specs.Refusals.{numberOf}
 use Rattle.psi.specs.Place.{noPlace}
-use Rattle.psi.specs.Walk.{Kind, Found, found, nothing, noneFitsAt, foundAt, entriesIn, leftBehind, leftFrom}
+use Rattle.walks.specs.Walk.{Kind, Found, found, nothing, noneFitsAt, foundAt, entriesIn, leftBehind, leftFrom}
 use Rattle.pmt.specs.Syntax.{streamHeader}
 use Rattle.pmt.specs.Start.{streamsStart}
 use Rattle.pmt.specs.declared.StreamInfo.{StreamInfo}

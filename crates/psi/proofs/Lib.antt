@@ -1,4 +1,2 @@
 pub mod Sections
-pub mod Walks
-pub mod AsBefore
 pub mod Determined

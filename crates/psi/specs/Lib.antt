@@ -2,5 +2,3 @@ pub mod Syntax
 pub mod Header
 pub mod Place
 pub mod Body
-pub mod Walk
-pub mod WalkBefore

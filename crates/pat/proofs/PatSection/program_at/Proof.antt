@@ -3,7 +3,7 @@ use mathlib.Core.Path.{sym}
 use native.Mathlib.Omega.{arith}
 use borrow.Author.Needs.{needs}
 use denote.Ref.{now}
-use Rattle.psi.proofs.Walks.{found-above, found-end}
+use Rattle.walks.proofs.Walks.{found-above, found-end}
 use Rattle.pat.specs.Programs.{programKind}
 use Rattle.pat.proofs.Programs.{tail-found, network-found, program-found}
 use Rattle.pat.proofs.PatSection.program_at.Statement.{statement}

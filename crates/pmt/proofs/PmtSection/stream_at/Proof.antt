@@ -3,7 +3,7 @@ use mathlib.Core.Path.{sym}
 use native.Mathlib.Omega.{arith}
 use borrow.Author.Needs.{needs}
 use denote.Ref.{now}
-use Rattle.psi.proofs.Walks.{found-above, found-end}
+use Rattle.walks.proofs.Walks.{found-above, found-end}
 use Rattle.pmt.specs.Streams.{streamKind}
 use Rattle.pmt.proofs.Streams.{under-5-found, info-past-end-found, stream-found}
 use Rattle.pmt.proofs.PmtSection.stream_at.Statement.{statement}

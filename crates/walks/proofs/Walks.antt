@@ -11,7 +11,7 @@ use Rattle.fields.specs.Choice.{if_then_else_, _is_}
 use Rattle.fields.proofs.Choices.{test-holds, test-fails}
 use Rattle.answers.specs.Numbers.{walkAtEnd, positionAboveLength}
 use Rattle.answers.specs.Says.{Says, refused}
-use Rattle.psi.specs.Walk.{Kind, Found, found, nothing, noneFitsAt, foundAt, entriesIn, leftBehind, leftFrom, Walked, got, endedBy, walked, exactly}
+use Rattle.walks.specs.Walk.{Kind, Found, found, nothing, noneFitsAt, foundAt, entriesIn, leftBehind, leftFrom, Walked, got, endedBy, walked, exactly}
 
 -- an entry that fits has two bytes or more, and they are there; what says why none does refuses
 pub record Fitting {Entry : Type 0} (kind : Kind Entry) : Type 0 where

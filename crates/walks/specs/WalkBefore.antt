@@ -6,7 +6,7 @@ use lib.ListN.{length, drop}
 use Rattle.fields.specs.Choice.{if_then_else_, _is_, _isAbove_}
 use Rattle.answers.specs.Numbers.{walkAtEnd, positionAboveLength}
 use Rattle.answers.specs.Says.{Says, refused}
-use Rattle.psi.specs.Walk.{Kind, Found, found, nothing}
+use Rattle.walks.specs.Walk.{Kind, Found, found, nothing}
 
 -- row 24, "no entry fits here", whatever the kind and the reason
 abbrev pub noEntryFits : ℕ
