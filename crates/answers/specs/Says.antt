@@ -1,5 +1,5 @@
--- What a call says: a number of document 01's table, and the values that were asked. "All other numbers in a refused answer are 0, and its
--- parts are empty": the values of a refusal are those that the caller of `refused` names as none.
+-- What a call says: a number of the table of answers, and the values that were asked. "All other numbers in a refused answer are 0, and its
+-- parts are empty": the values of a refusal are those that the caller of `refused` names as none, with what 22, 24, 27 and 28 tell.
 use Prim.Native.Nat.{ℕ}
 
 pub record Says (Values : Type 0) : Type 0 where
@@ -10,6 +10,6 @@ pub record Says (Values : Type 0) : Type 0 where
 abbrev pub given : {Values : Type 0} → Values → Says Values
 given values = record { number = 0; values = values }
 
--- a refusal: its number, and no values
+-- a refusal: its number, and what stands for no values
 abbrev pub refused : {Values : Type 0} → ℕ → Values → Says Values
 refused n none = record { number = n; values = none }

@@ -1,19 +1,20 @@
 -- A host that walks the streams of a PMT's body gets those that it lists. Assumes nothing.
-use Prim.Native.Nat.{ℕ, _+_, _≤_, _<_}
-use mathlib.Core.Path.{_≡_, sym, ap, _∙_}
+use Prim.Native.Nat.{ℕ, zero, suc, _+_, _≤_, _<_}
+use mathlib.Core.Path.{_≡_, refl, sym, ap, _∙_}
 use mathlib.Core.Bool.{false}
-use mathlib.Core.List.{List}
+use mathlib.Core.List.{List, [], _∷_}
 use native.Mathlib.Omega.{arith}
 use borrow.Author.Tests.{leb-true, leb-false, le-leb}
 use lib.ListN.{length, drop, length-drop}
+use Rattle.fields.specs.Choice.{if_then_else_}
 use Rattle.fields.proofs.Choices.{test-holds, and-holds, of-both}
 use Rattle.answers.specs.Numbers.{walkAtEnd, streamUnder5, infoPastEnd}
 use Rattle.walks.specs.Walk.{Walked, walked, exactly, entriesIn, leftBehind, leftFrom}
 use Rattle.walks.specs.WalkBefore.{foundBefore}
 use Rattle.walks.proofs.AsBefore.{same-entries}
-use Rattle.walks.proofs.Walks.{Fitting, walk-is-the-loop, entries-have-bytes, nothing-left-fits, left-from-there, ends-at-end, ends-before}
+use Rattle.walks.proofs.Walks.{by-test, Fitting, walk-is-the-loop, entries-have-bytes, nothing-left-fits, left-from-there, ends-at-end, ends-before}
 use Rattle.pmt.specs.Start.{started, streamsStart, sectionOf, startOf}
-use Rattle.pmt.specs.Streams.{infoLength, streamKind, streamAt, streams, behindStreams, streamsEnd}
+use Rattle.pmt.specs.Streams.{infoLength, streamOf, streamKind, streamAt, streams, behindStreams, streamsEnd}
 use Rattle.pmt.specs.declared.PmtSection.{PmtSection}
 use Rattle.pmt.specs.declared.StreamInfo.{StreamInfo}
 use Rattle.pmt.proofs.Starts.{start-given}
@@ -77,22 +78,35 @@ module _ (body : List ℕ) (section : PmtSection) (start : started section ≡ s
 
 -- ---- how the walk ends
 
--- with 23 where no bytes are left behind the streams; else with 27 where these are under five, and with 28 where they are more, and too few for
--- their info; and with the offset from which on they stand in the body: that of the first byte that is in no stream
+-- streams that lie one behind the other: the first begins at a place, each where the one before it ends, and the last ends at another place
+abbrev pub EndToEnd : ℕ → List StreamInfo → ℕ → Type 0
+EndToEnd from [] to = from ≡ to
+EndToEnd from (stream ∷ later) to =
+    (stream .info .start ≡ from + 5) × EndToEnd (stream .info .start + stream .info .len) later to
+
+lie-in-turns : (turns position : ℕ) (bytes : List ℕ)
+    → EndToEnd position (entriesIn streamKind turns position bytes) (leftFrom streamKind turns position bytes)
+unfolding entriesIn leftFrom streamOf if_then_else_
+lie-in-turns zero position bytes = refl
+lie-in-turns (suc turns) position bytes =
+    let sum : position + 5 + infoLength bytes ≡ position + (5 + infoLength bytes) = omega arith in
+    by-test (streamKind .fits bytes)
+    (λ f. rw f (refl, rw sum (lie-in-turns turns (position + (5 + infoLength bytes)) (drop (5 + infoLength bytes) bytes))))
+    (λ f. rw f refl)
+
+-- The streams that a host got lie end to end from where they start, and what stands from their end on is left behind. The walk ends with 23 where
+-- that is nothing; else with 27 where it is under five bytes, and with 28 where it is more, and too few for their info; and then with the offset of
+-- their end: that of the first byte that is in no stream.
 pub record Ends (body : List ℕ) (walk : Walked StreamInfo) : Type 0 where
+  pub lie : EndToEnd (streamsStart body) (walk .entries) (streamsEnd body)
+  pub behind : drop (streamsEnd body) body ≡ behindStreams body
   pub even : length (behindStreams body) ≡ 0 → (walk .ended ≡ walkAtEnd) × (walk .offset ≡ 0)
   pub under : 0 < length (behindStreams body) → length (behindStreams body) < 5
-      → (walk .ended ≡ streamUnder5) × (drop (walk .offset) body ≡ behindStreams body)
+      → (walk .ended ≡ streamUnder5) × (walk .offset ≡ streamsEnd body)
   pub past : 5 ≤ length (behindStreams body)
       → (walk .ended ≡ infoPastEnd)
-      × (drop (walk .offset) body ≡ behindStreams body)
+      × (walk .offset ≡ streamsEnd body)
       × (length (behindStreams body) < 5 + infoLength (behindStreams body))
-
--- what stands from the end of the streams on is what is left behind them
-left-at-streams-end : (body : List ℕ) → streamsStart body ≤ length body → drop (streamsEnd body) body ≡ behindStreams body
-left-at-streams-end body within =
-    let bytes = drop (streamsStart body) body in
-    sym (left-from-there streamKind five-bytes body (length bytes) (streamsStart body) within .0)
 
 -- five bytes or more into which no stream fits are too few for its info
 too-few-for-info : (bytes : List ℕ) → streamKind .fits bytes ≡ false → 5 ≤ length bytes → length bytes < 5 + infoLength bytes
@@ -102,18 +116,19 @@ too-few-for-info bytes f five =
 pub how-the-walk-ends : (body : List ℕ) (section : PmtSection) → started section ≡ startOf body → (calls : ℕ) → length body ≤ calls
     → Ends body (walked (streamAt body) calls (section .streams))
 how-the-walk-ends body section start calls c =
+    let bytes = drop (streamsStart body) body in
     let left = behindStreams body in
-    let there = left-at-streams-end body (start-given body section start .within) in
+    let within = start-given body section start .within in
     let before = ends-before streamKind (streams body) left (streamsEnd body) in
-    let at : (length left ≡ 0 → ⊥) → drop (exactly streamKind (streams body) left (streamsEnd body) .offset) body ≡ left =
-    λ some. ap (λ (n : ℕ). drop n body) (before some .1) ∙ there in
     rw (host-gets-the-streams body section start calls c)
     (record {
+      lie = lie-in-turns (length bytes) (streamsStart body) bytes;
+      behind = sym (left-from-there streamKind five-bytes body (length bytes) (streamsStart body) within .0);
       even = ends-at-end streamKind (streams body) left (streamsEnd body);
       under = λ some short.
-          let n : length left ≡ 0 → ⊥ = λ e. omega arith in
-          (before n .0 ∙ why-under-5 left short, at n);
+          let ends = before (λ e. omega arith) in
+          (ends .0 ∙ why-under-5 left short, ends .1);
       past = λ five.
-          let n : length left ≡ 0 → ⊥ = λ e. omega arith in
-          (before n .0 ∙ why-info-past-end left five, at n, too-few-for-info left (no-stream-behind-streams body) five);
+          let ends = before (λ e. omega arith) in
+          (ends .0 ∙ why-info-past-end left five, ends .1, too-few-for-info left (no-stream-behind-streams body) five);
     })

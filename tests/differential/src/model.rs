@@ -1,4 +1,4 @@
-//! The model: document 01 in its words and its order, and the struct of numbers that the C face makes of it. It shares no code with the port or
+//! The model: document 01 in its words and its order, as request 1 amends it, and the struct of numbers that the C face makes of it. It shares no code with the port or
 //! with the Rust crate, and is written to be read, not to be fast: fields are cut out bit by bit, the CRC is the bit steps.
 
 use crate::answers::*;
