@@ -44,8 +44,8 @@ under8Bytes = 12
 abbrev pub lengthAbove1021 : ℕ
 lengthAbove1021 = 13
 
-abbrev pub versionRepeated : ℕ
-versionRepeated = 14
+abbrev pub alreadyDelivered : ℕ
+alreadyDelivered = 14
 
 abbrev pub noSectionOpen : ℕ
 noSectionOpen = 15

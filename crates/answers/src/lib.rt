@@ -33,7 +33,7 @@ impl Answer {
 
     pub const LENGTH_ABOVE_1021: u8 = 13;
 
-    pub const VERSION_REPEATED: u8 = 14;
+    pub const ALREADY_DELIVERED: u8 = 14;
 
     pub const NO_SECTION_OPEN: u8 = 15;
 

@@ -8,7 +8,7 @@ use lib.ListN.{length}
 use borrow.Author.Tests.{lt-ltb, le-ltb, ltb-false}
 use Rattle.fields.specs.Choice.{if_then_else_, _isBelow_, _isAbove_}
 use Rattle.fields.proofs.Choices.{test-holds, test-fails, second-chosen}
-use Rattle.answers.specs.Numbers.{under3Bytes, syntaxIndicator, under8Bytes, lengthAbove1021, versionRepeated}
+use Rattle.answers.specs.Numbers.{under3Bytes, syntaxIndicator, under8Bytes, lengthAbove1021, alreadyDelivered}
 use Rattle.answers.specs.Says.{given, refused}
 use Rattle.answers.specs.Refusals.{numberOf}
 use Rattle.answers.specs.declared.Refusal.{Refusal}
@@ -39,7 +39,7 @@ module _ (form : Form) (memory : Memory) (bytes : List ℕ) where
         → startRefusal form memory bytes
         ≡ (if length bytes isBelow leastHeld form then under8Bytes
         else if header .«section_length» isAbove lengthLimit then lengthAbove1021
-        else if repeats form memory bytes then versionRepeated
+        else if repeats form memory bytes then alreadyDelivered
         else 0)
     unfolding startRefusal fieldsOf
     start-of-its-syntax its =
@@ -49,7 +49,7 @@ module _ (form : Form) (memory : Memory) (bytes : List ℕ) where
         ∙ test-fails _ _ _ (ap not (sym (ap (λ h. takesSyntax form (h .«section_syntax_indicator»)) (known .1)) ∙ its))
         ∙ ap
         (λ (n : ℕ). if length bytes isBelow leastHeld form then under8Bytes else if n isAbove lengthLimit then lengthAbove1021
-        else if repeats form memory bytes then versionRepeated else 0)
+        else if repeats form memory bytes then alreadyDelivered else 0)
         (sym long)
 
   -- a section starts with these bytes

@@ -4,7 +4,7 @@ use mathlib.Core.Bool.{Bool, not}
 use mathlib.Core.List.{List}
 use lib.ListN.{length}
 use Rattle.fields.specs.Choice.{if_then_else_, _isBelow_, _isAbove_}
-use Rattle.answers.specs.Numbers.{under3Bytes, syntaxIndicator, under8Bytes, lengthAbove1021, versionRepeated}
+use Rattle.answers.specs.Numbers.{under3Bytes, syntaxIndicator, under8Bytes, lengthAbove1021, alreadyDelivered}
 use Rattle.psi.specs.Header as section
 use Rattle.psi.specs.Header.{sectionLength, lengthLimit}
 use Rattle.memory.specs.declared.Form.{Form}
@@ -24,12 +24,12 @@ takesSyntax Form.Full indicator = indicator
 takesSyntax Form.Once indicator = indicator
 
 -- "From the pointer on: under 3 bytes, 10. Then in this order: syntax indicator .., 11; under 8 bytes (not COMPACT), 12; section_length above 1,021, 13; ONCE
--- and version equal to the remembered one, 14"; 0 where nothing refuses the start
+-- and" one that it delivered, "14"; 0 where nothing refuses the start
 unfoldable pub startRefusal : Form → Memory → List ℕ → ℕ
 startRefusal form memory bytes =
     if length bytes isBelow 3 then under3Bytes
     else if not (takesSyntax form (section.syntaxIndicator bytes)) then syntaxIndicator
     else if length bytes isBelow leastHeld form then under8Bytes
     else if sectionLength bytes isAbove lengthLimit then lengthAbove1021
-    else if repeats form memory bytes then versionRepeated
+    else if repeats form memory bytes then alreadyDelivered
     else 0

@@ -2,13 +2,14 @@
 // The crate's src/psi/mod.rs.
 ghost use mathlib.Core.Path.{_≡_};
 ghost use Rattle.packet.specs.Payload.{payloadSays};
+ghost use Rattle.memory_words.specs.Words.{memoryIn};
 ghost use Rattle.gathering_rules.specs.Checks.{checked};
 ghost use Rattle.gathering_rules.specs.Start.{leastHeld, takesSyntax, startRefusal};
 ghost use Rattle.gathering_rules.specs.Verdict.{crcVerdict, verdict};
 use answers::Answer;
 use answers::Refusal;
 use memory::Form;
-use memory::Memory;
+use memory_words::repeats;
 use mpegts_crc::sum32;
 use packet::HeaderAnswer;
 use packet::Packet;
@@ -61,9 +62,9 @@ fn takes_syntax(form: Form, indicator: bool) -> bool
     }
 }
 
-// 10 to 14, or 0 where a section starts with these bytes.
-pub fn start_refusal(form: Form, memory: Memory, bytes: &[u8]) -> u8
-    ensures { λ r. ⌜ r ≡ startRefusal form memory (now (bytes .entry)) ⌝ }
+// 10 to 14, or 0 where a section starts with these bytes. What is remembered is lent as words.
+pub fn start_refusal(form: Form, memory: &[u64], bytes: &[u8]) -> u8
+    ensures { λ r. ⌜ r ≡ startRefusal form (memoryIn (now (memory .entry))) (now (bytes .entry)) ⌝ }
 {
     let psi::HeaderAnswer::Is(header) = Section::header(bytes) else {
         return Answer::UNDER_3_BYTES;
@@ -77,8 +78,8 @@ pub fn start_refusal(form: Form, memory: Memory, bytes: &[u8]) -> u8
     if Section::LENGTH_LIMIT < header.section_length {
         return Answer::LENGTH_ABOVE_1021;
     }
-    if memory.repeats(form, bytes) {
-        return Answer::VERSION_REPEATED;
+    if repeats(memory, form, bytes) {
+        return Answer::ALREADY_DELIVERED;
     }
     0
 }

@@ -3,9 +3,8 @@ use mathlib.Core.Path.{sym, _∙_}
 use Rattle.fields.specs.Determines.{Determines}
 use Rattle.memory.proofs.Memory.none.Reads as none
 use Rattle.memory.proofs.Memory.repeats.Reads as repeats
-use Rattle.memory.proofs.Memory.at_start.Reads as at-start
+use Rattle.memory.proofs.Memory.after.Reads as after
 use Rattle.memory.proofs.Memory.is_sound.Reads as is-sound
-use Rattle.memory.proofs.after_refusal.Reads as after-refusal
 
 pub none-determined : Determines none.Post
 none-determined κs arguments x y x-exit y-exit p q = p ∙ sym q
@@ -13,11 +12,8 @@ none-determined κs arguments x y x-exit y-exit p q = p ∙ sym q
 pub repeats-determined : Determines repeats.Post
 repeats-determined κs arguments x y x-exit y-exit p q = p ∙ sym q
 
-pub at-start-determined : Determines at-start.Post
-at-start-determined κs arguments x y x-exit y-exit p q = p ∙ sym q
+pub after-determined : Determines after.Post
+after-determined κs arguments x y x-exit y-exit p q = p ∙ sym q
 
 pub is-sound-determined : Determines is-sound.Post
 is-sound-determined κs arguments x y x-exit y-exit p q = p ∙ sym q
-
-pub after-refusal-determined : Determines after-refusal.Post
-after-refusal-determined κs arguments x y x-exit y-exit p q = p ∙ sym q

@@ -1,48 +1,128 @@
--- What is remembered stays sound. Assumes nothing.
+-- What is remembered stays sound; what a delivery marks, and what no answer but 2, 9 and 10 changes. Assumes nothing.
 use Prim.Native.Nat.{ℕ, _≤_, _<_}
-use mathlib.Core.Path.{_≡_, refl, ap}
-use mathlib.Core.Bool.{true}
+use mathlib.Core.Path.{_≡_, refl, sym, ap, _∙_}
+use mathlib.Core.Bool.{Bool, true, false, false≢true}
 use mathlib.Core.List.{List}
 use native.Mathlib.Omega.{arith}
-use lib.ListN.{length}
-use borrow.Author.Tests.{le-leb, le-ltb, ltb-false}
-use Rattle.fields.specs.Choice.{if_then_else_}
-use Rattle.fields.proofs.Choices.{test-fails, of-both, of-either}
-use Rattle.answers.specs.Says.{Says}
-use Rattle.psi.specs.Header.{versionNumber, tableFieldsOf, tableHeaderOf}
-use Rattle.psi.specs.declared.TableSyntaxHeader.{TableSyntaxHeader}
-use Rattle.psi.proofs.Sections.{version-number-below-32}
+use borrow.Author.Tests.{le-leb, ne-eqb, eqb-true}
+use Rattle.fields.specs.Choice.{if_then_else_, _is_}
+use Rattle.fields.proofs.Choices.{test-holds, test-fails, of-both, either-way, and-holds, both-hold}
+use Rattle.answers.specs.Numbers.{delivered, pointerBeyondRest, under3Bytes}
+use Rattle.marks.specs.Marks.{noMarks, fourWords, anyMarked, marked}
+use Rattle.marks.specs.declared.Marks.{Marks}
+use Rattle.marks.proofs.Marking.{mark-law, with-mark-four, with-mark-any, none-marked, none-is-no-marks}
+use Rattle.labels.specs.Label.{labelOf, noLabel}
+use Rattle.labels.specs.declared.Label.{Label}
+use Rattle.labels.proofs.Labels.{version-below-32, section-number-below-256}
 use Rattle.memory.specs.declared.Form.{Form}
 use Rattle.memory.specs.declared.Memory.{Memory}
-use Rattle.memory.specs.Memory.{noMemory, soundMemory, versionOf, atStart, afterRefusal}
+use Rattle.memory.specs.Memory.{noMemory, mayRemember, soundMemory, sameFlag, agrees, marksFor, remembering, onDelivery, afterRefusal, afterAnswer}
+
+-- ---- sound memories
 
 pub nothing-remembered-sound : (form : Form) → soundMemory form noMemory ≡ true
-unfolding soundMemory if_then_else_
+unfolding soundMemory agrees anyMarked if_then_else_
 nothing-remembered-sound form = refl
 
--- of eight bytes, which ONCE has where nothing refuses a start, it is the field of the table
-pub version-of-eight : (bytes : List ℕ) → 8 ≤ length bytes → versionOf bytes ≡ versionNumber bytes
-unfolding tableHeaderOf tableFieldsOf
-version-of-eight bytes l = ap (λ (s : Says TableSyntaxHeader). s .values .version) (test-fails _ _ _ (le-ltb _ _ l))
+pub four-words : (form : Form) (memory : Memory) → soundMemory form memory ≡ true → fourWords (memory .marks) ≡ true
+unfolding soundMemory
+four-words form memory h = and-holds _ _ h .0
 
--- a version has 5 bits
-pub version-below-32 : (bytes : List ℕ) → versionOf bytes < 32
-unfolding tableHeaderOf tableFieldsOf
-version-below-32 bytes =
-    of-either (λ (s : Says TableSyntaxHeader). s .values .version < 32) _ _ _ (λ short. omega arith)
-    (λ long. version-number-below-32 bytes (ltb-false _ _ long))
+pub marks-for-four : (memory : Memory) (label : Label) → fourWords (memory .marks) ≡ true → fourWords (marksFor memory label) ≡ true
+unfolding marksFor
+marks-for-four memory label four = of-both (λ (marks : Marks). fourWords marks ≡ true) _ _ _ four refl
 
-pub at-start-sound : (form : Form) (memory : Memory) (bytes : List ℕ) → soundMemory form memory ≡ true
-    → soundMemory form (atStart form memory bytes) ≡ true
-unfolding atStart soundMemory if_then_else_
-at-start-sound Form.Compact memory bytes h = h
-at-start-sound Form.Full memory bytes h = h
-at-start-sound Form.Once memory bytes h =
-    let below = version-below-32 bytes in
-    let most : versionOf bytes ≤ 31 = omega arith in
-    le-leb _ _ most
+number-below-256 : (section : List ℕ) → labelOf section .«section_number» < 256
+unfolding labelOf
+number-below-256 section = section-number-below-256 section
+
+remembering-sound : (memory : Memory) (section : List ℕ) → fourWords (memory .marks) ≡ true
+    → soundMemory Form.Once (remembering memory (labelOf section)) ≡ true
+unfolding soundMemory labelOf
+remembering-sound memory section four =
+    let marks = marksFor memory (labelOf section) in
+    let marks4 = marks-for-four memory (labelOf section) four in
+    let number = number-below-256 section in
+    let below = version-below-32 section in
+    let most : labelOf section .version ≤ 31 = omega arith in
+    both-hold _ _ (with-mark-four marks marks4 _ number)
+    (test-holds _ _ _ (with-mark-any marks marks4 _ number) ∙ le-leb _ _ most)
+
+pub on-delivery-sound : (form : Form) (memory : Memory) (section : List ℕ) → soundMemory form memory ≡ true
+    → soundMemory form (onDelivery form memory section) ≡ true
+unfolding onDelivery
+on-delivery-sound Form.Compact memory section h = h
+on-delivery-sound Form.Full memory section h = h
+on-delivery-sound Form.Once memory section h = remembering-sound memory section (four-words Form.Once memory h)
 
 pub after-refusal-sound : (form : Form) (n : ℕ) (memory : Memory) → soundMemory form memory ≡ true
     → soundMemory form (afterRefusal n memory) ≡ true
 after-refusal-sound form n memory h =
     of-both (λ (m : Memory). soundMemory form m ≡ true) _ _ _ (nothing-remembered-sound form) h
+
+-- ---- no memory
+
+same-flag : (flag : Bool) → sameFlag flag false ≡ true → flag ≡ false
+unfolding if_then_else_
+same-flag true h = absurd (false≢true h)
+same-flag false h = refl
+
+-- four numbers that are 0, and four words
+all-zero : (memory : Memory) → agrees memory noLabel ≡ true → memory .marks ≡ noMarks → memory ≡ noMemory
+unfolding agrees
+all-zero memory h none =
+    let behind-table-id = and-holds _ _ h in
+    let behind-id = and-holds _ _ (behind-table-id .1) in
+    let behind-version = and-holds _ _ (behind-id .1) in
+    ap (λ (n : ℕ). made n (memory .id) (memory .version) (memory .«current_next_indicator») (memory .marks))
+    (eqb-true _ _ (behind-table-id .0))
+    ∙ ap (λ (n : ℕ). made 0 n (memory .version) (memory .«current_next_indicator») (memory .marks)) (eqb-true _ _ (behind-id .0))
+    ∙ ap (λ (n : ℕ). made 0 0 n (memory .«current_next_indicator») (memory .marks)) (eqb-true _ _ (behind-version .0))
+    ∙ ap (λ (b : Bool). made 0 0 0 b (memory .marks)) (same-flag _ (behind-version .1))
+    ∙ ap (made 0 0 0 false) none
+  where
+    made : ℕ → ℕ → ℕ → Bool → Marks → Memory
+    made tableId id version current marks =
+        record { «table_id» = tableId; id = id; version = version; «current_next_indicator» = current; marks = marks }
+
+-- a form that may remember no version remembers nothing
+pub nothing-where-none-may : (form : Form) → ((version : ℕ) → mayRemember form version ≡ false) → (memory : Memory)
+    → soundMemory form memory ≡ true → memory ≡ noMemory
+unfolding soundMemory
+nothing-where-none-may form never memory h =
+    let parts = and-holds _ _ h in
+    either-way _ _ _ _ (parts .1) (λ some f. absurd (false≢true (sym (never (memory .version)) ∙ f)))
+    (λ none f. all-zero memory f (none-is-no-marks (memory .marks) (parts .0) none))
+
+-- ---- what a delivery marks
+
+marked-of-either : (same : Bool) (marks : Marks) (k : ℕ)
+    → marked (if same then marks else noMarks) k ≡ (if same then marked marks k else false)
+unfolding if_then_else_
+marked-of-either true marks k = refl
+marked-of-either false marks k = none-marked k
+
+marked-for : (memory : Memory) (label : Label) (k : ℕ)
+    → marked (marksFor memory label) k ≡ (if agrees memory label then marked (memory .marks) k else false)
+unfolding marksFor
+marked-for memory label k = marked-of-either (agrees memory label) (memory .marks) k
+
+-- its own number, and those that were marked with the same four
+pub marked-on-delivery : (memory : Memory) (section : List ℕ) → fourWords (memory .marks) ≡ true → (k : ℕ)
+    → marked (onDelivery Form.Once memory section .marks) k
+    ≡ (if k is labelOf section .«section_number» then true else if agrees memory (labelOf section) then marked (memory .marks) k
+    else false)
+unfolding onDelivery
+marked-on-delivery memory section four k =
+    let label = labelOf section in
+    mark-law (marksFor memory label) (marks-for-four memory label four) (label .«section_number») (number-below-256 section) k
+    ∙ ap (λ (before : Bool). if k is label .«section_number» then true else before) (marked-for memory label k)
+
+-- ---- by the answer
+
+-- an answer that is neither 2 nor 9 nor 10 leaves the memory as it was
+pub memory-stays : (answer : ℕ) (form : Form) (memory : Memory) (section : List ℕ) → (answer ≡ delivered → ⊥)
+    → (answer ≡ pointerBeyondRest → ⊥) → (answer ≡ under3Bytes → ⊥) → afterAnswer answer form memory section ≡ memory
+unfolding afterAnswer
+memory-stays answer form memory section not2 not9 not10 =
+    test-fails _ _ _ (ne-eqb _ _ not2) ∙ test-fails _ _ _ (ne-eqb _ _ not9) ∙ test-fails _ _ _ (ne-eqb _ _ not10)

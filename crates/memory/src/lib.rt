@@ -1,9 +1,10 @@
-// The forms of a reader, and what the form ONCE remembers. The crate's src/psi/mod.rs.
+// The forms of a reader, and what the form ONCE remembers.
 ghost use mathlib.Core.Path.{_≡_};
-ghost use Rattle.memory.specs.Memory.{noMemory, soundMemory, versionOf, repeats, atStart, afterRefusal};
+ghost use Rattle.memory.specs.Memory.{noMemory, soundMemory, agrees, repeats};
+ghost use Rattle.memory.specs.Memory.{marksFor, remembering, onDelivery, afterAnswer};
 use answers::Answer;
-use psi::Section;
-use psi::TableHeaderAnswer;
+use labels::Label;
+use marks::Marks;
 
 pub enum Form {
     Compact,
@@ -11,20 +12,13 @@ pub enum Form {
     Once,
 }
 
-// What ONCE remembers: a version, or none (then the number is 0).
+// What ONCE remembers of the sections that it delivered: the four numbers that they have in common, and a mark for the number of each. All zero is none.
 pub struct Memory {
-    pub known: bool,
+    pub table_id: u8,
+    pub id: u16,
     pub version: u8,
-}
-
-// The version in the table header, or 0 where there is none.
-fn version(section: &[u8]) -> u8
-    ensures { λ r. ⌜ r ≡ versionOf (now (section .entry)) ⌝ }
-{
-    match Section::table_header(section) {
-        TableHeaderAnswer::Is(header) => header.version,
-        TableHeaderAnswer::Refused(_) => 0,
-    }
+    pub current_next_indicator: bool,
+    pub marks: Marks,
 }
 
 impl Memory {
@@ -32,12 +26,32 @@ impl Memory {
         ensures { λ r. ⌜ r ≡ noMemory ⌝ }
     {
         Memory {
-            known: false,
+            table_id: 0,
+            id: 0,
             version: 0,
+            current_next_indicator: false,
+            marks: Marks::none(),
         }
     }
 
-    // Whether a section that starts with these bytes repeats what is remembered.
+    // Whether the four numbers are the label's.
+    fn agrees(self, label: Label) -> bool
+        ensures { λ r. ⌜ r ≡ agrees self label ⌝ }
+    {
+        if self.table_id == label.table_id {
+            if self.id == label.id {
+                if self.version == label.version {
+                    if self.current_next_indicator {
+                        return label.current_next_indicator;
+                    }
+                    return !label.current_next_indicator;
+                }
+            }
+        }
+        false
+    }
+
+    // Whether a section that starts with these bytes is one that was delivered.
     pub fn repeats(self, form: Form, bytes: &[u8]) -> bool
         ensures { λ r. ⌜ r ≡ repeats form self (now (bytes .entry)) ⌝ }
     {
@@ -45,49 +59,78 @@ impl Memory {
             Form::Compact => false,
             Form::Full => false,
             Form::Once => {
-                if self.known {
-                    return self.version == version(bytes);
+                let label = Label::of(bytes);
+                let marks = self.marks;
+                if self.agrees(label) {
+                    return marks.marked(label.section_number);
                 }
                 false
             }
         }
     }
 
-    // What is remembered once a section has started with these bytes.
-    pub fn at_start(self, form: Form, bytes: &[u8]) -> Memory
-        ensures { λ r. ⌜ r ≡ atStart form self (now (bytes .entry)) ⌝ }
+    // The marks that were put for the label's four numbers.
+    fn marks_for(self, label: Label) -> Marks
+        ensures { λ r. ⌜ r ≡ marksFor self label ⌝ }
+    {
+        if self.agrees(label) {
+            return self.marks;
+        }
+        Marks::none()
+    }
+
+    // The four numbers of the section, and its mark beside those that were put for the same four.
+    fn remembering(self, label: Label) -> Memory
+        ensures { λ r. ⌜ r ≡ remembering self label ⌝ }
+    {
+        let marks = self.marks_for(label);
+        Memory {
+            table_id: label.table_id,
+            id: label.id,
+            version: label.version,
+            current_next_indicator: label.current_next_indicator,
+            marks: marks.with_mark(label.section_number),
+        }
+    }
+
+    fn on_delivery(self, form: Form, section: &[u8]) -> Memory
+        ensures { λ r. ⌜ r ≡ onDelivery form self (now (section .entry)) ⌝ }
     {
         match form {
             Form::Compact => self,
             Form::Full => self,
-            Form::Once => Memory {
-                known: true,
-                version: version(bytes),
-            },
+            Form::Once => self.remembering(Label::of(section)),
         }
+    }
+
+    // What is remembered after a step with this answer, which delivered this section.
+    pub fn after(self, answer: u8, form: Form, section: &[u8]) -> Memory
+        ensures { λ r. ⌜ r ≡ afterAnswer answer form self (now (section .entry)) ⌝ }
+    {
+        if answer == Answer::DELIVERED {
+            return self.on_delivery(form, section);
+        }
+        if answer == Answer::POINTER_BEYOND_REST {
+            return Memory::none();
+        }
+        if answer == Answer::UNDER_3_BYTES {
+            return Memory::none();
+        }
+        self
     }
 
     pub fn is_sound(self, form: Form) -> bool
         ensures { λ r. ⌜ r ≡ soundMemory form self ⌝ }
     {
-        if self.known {
+        let marks = self.marks;
+        if marks.any() {
             match form {
                 Form::Compact => false,
                 Form::Full => false,
                 Form::Once => self.version <= 31,
             }
         } else {
-            self.version == 0
+            self.agrees(Label::none())
         }
     }
-}
-
-// What is remembered where a start is refused.
-pub fn after_refusal(refusal: u8, memory: Memory) -> Memory
-    ensures { λ r. ⌜ r ≡ afterRefusal refusal memory ⌝ }
-{
-    if refusal == Answer::UNDER_3_BYTES {
-        return Memory::none();
-    }
-    memory
 }

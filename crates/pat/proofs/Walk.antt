@@ -7,11 +7,12 @@ use borrow.Author.Tests.{leb-true, leb-false}
 use lib.ListN.{length, drop, getD, length-drop}
 use lib.Seq.{drop-drop}
 use Rattle.fields.specs.Choice.{if_then_else_, _isAtMost_}
+use Rattle.fields.proofs.Choices.{by-test}
 use Rattle.answers.specs.Numbers.{walkAtEnd, patTail}
 use Rattle.walks.specs.Walk.{Walked, walked, exactly, entriesIn, leftBehind, leftFrom}
 use Rattle.walks.specs.WalkBefore.{foundBefore}
 use Rattle.walks.proofs.AsBefore.{same-entries}
-use Rattle.walks.proofs.Walks.{by-test, Fitting, walk-is-the-loop, entries-have-bytes, nothing-left-fits, ends-at-end, ends-before}
+use Rattle.walks.proofs.Walks.{Fitting, walk-is-the-loop, entries-have-bytes, nothing-left-fits, ends-at-end, ends-before}
 use Rattle.pat.specs.declared.ProgramDescriptor.{ProgramDescriptor}
 use Rattle.pat.specs.Programs.{programOf, programKind, programAt, programs, behindPrograms, programsEnd}
 

@@ -7,12 +7,12 @@ use native.Mathlib.Omega.{arith}
 use borrow.Author.Tests.{leb-true, leb-false, le-leb}
 use lib.ListN.{length, drop, length-drop}
 use Rattle.fields.specs.Choice.{if_then_else_}
-use Rattle.fields.proofs.Choices.{test-holds, and-holds, of-both}
+use Rattle.fields.proofs.Choices.{test-holds, and-holds, of-both, by-test}
 use Rattle.answers.specs.Numbers.{walkAtEnd, streamUnder5, infoPastEnd}
 use Rattle.walks.specs.Walk.{Walked, walked, exactly, entriesIn, leftBehind, leftFrom}
 use Rattle.walks.specs.WalkBefore.{foundBefore}
 use Rattle.walks.proofs.AsBefore.{same-entries}
-use Rattle.walks.proofs.Walks.{by-test, Fitting, walk-is-the-loop, entries-have-bytes, nothing-left-fits, left-from-there, ends-at-end, ends-before}
+use Rattle.walks.proofs.Walks.{Fitting, walk-is-the-loop, entries-have-bytes, nothing-left-fits, left-from-there, ends-at-end, ends-before}
 use Rattle.pmt.specs.Start.{started, streamsStart, sectionOf, startOf}
 use Rattle.pmt.specs.Streams.{infoLength, streamOf, streamKind, streamAt, streams, behindStreams, streamsEnd}
 use Rattle.pmt.specs.declared.PmtSection.{PmtSection}

@@ -5,9 +5,10 @@ use mathlib.Core.List.{List, _∷_}
 use borrow.Author.Tests.{ne-eqb}
 use lib.ListN.{length, drop}
 use Rattle.fields.specs.Choice.{if_then_else_, _is_, _isAbove_}
+use Rattle.fields.proofs.Choices.{by-test}
 use Rattle.walks.specs.Walk.{Kind, noneFitsAt, foundAt, walked}
 use Rattle.walks.specs.WalkBefore.{noEntryFits, foundBefore}
-use Rattle.walks.proofs.Walks.{by-test, Fitting}
+use Rattle.walks.proofs.Walks.{Fitting}
 
 module _ {Entry : Type 0} (kind : Kind Entry) (body : List ℕ) where
   -- a call answers what it answered, save where that was 24

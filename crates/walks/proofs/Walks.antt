@@ -8,7 +8,7 @@ use borrow.Author.Tests.{lt-ltb, le-ltb, eqb-true, eqb-false, eq-eqb, ne-eqb}
 use lib.ListN.{length, drop, length-drop}
 use lib.Seq.{drop-drop}
 use Rattle.fields.specs.Choice.{if_then_else_, _is_}
-use Rattle.fields.proofs.Choices.{test-holds, test-fails}
+use Rattle.fields.proofs.Choices.{test-holds, test-fails, by-test}
 use Rattle.answers.specs.Numbers.{walkAtEnd, positionAboveLength}
 use Rattle.answers.specs.Says.{Says, refused}
 use Rattle.walks.specs.Walk.{Kind, Found, found, nothing, noneFitsAt, foundAt, entriesIn, leftBehind, leftFrom, Walked, got, endedBy, walked, exactly}
@@ -17,11 +17,6 @@ use Rattle.walks.specs.Walk.{Kind, Found, found, nothing, noneFitsAt, fo
 pub record Fitting {Entry : Type 0} (kind : Kind Entry) : Type 0 where
   pub whole : (bytes : List ℕ) → kind .fits bytes ≡ true → (2 ≤ kind .size bytes) × (kind .size bytes ≤ length bytes)
   pub refuses : (bytes : List ℕ) → kind .whyNot bytes ≡ 0 → ⊥
-
--- by whether a test holds
-pub by-test : {A : Type 0} (t : Bool) → (t ≡ true → A) → (t ≡ false → A) → A
-by-test true f g = f refl
-by-test false f g = g refl
 
 -- ---- a call: above the body's length, at its end, and before it, where an entry fits and where none does
 

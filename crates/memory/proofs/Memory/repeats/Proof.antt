@@ -1,9 +1,12 @@
--- `memory::Memory::repeats` meets its contract, form by form. Assumes nothing.
+-- `memory::Memory::repeats` meets its contract: form by form. Assumes nothing.
 use Rattle.fields.specs.Choice.{if_then_else_}
 use Rattle.memory.specs.Memory.{repeats}
 use borrow.Author.Needs.{needs}
 use Rattle.memory.proofs.Memory.repeats.Statement.{statement}
 use Rattle.memory.proofs.Memory.repeats.Tie as tie
+use Rattle.labels.proofs.Label.of.Reads as of-reads
+use Rattle.marks.proofs.Marks.marked.Reads as marked-reads
+use Rattle.memory.proofs.Memory.agrees.Reads as agrees-reads
 
 enum-told : tie.Need-enum-told
 enum-told c = search needs
@@ -14,12 +17,18 @@ enum-told-2 c = search needs
 enum-told-3 : tie.Need-enum-told-3
 enum-told-3 c = search needs
 
-version-requires : tie.Need-version-requires
-version-requires c κs = search needs
+of-requires : tie.Need-of-requires
+of-requires c κs = search needs
+
+agrees-requires : tie.Need-agrees-requires
+agrees-requires c κs = search needs
+
+marked-requires : tie.Need-marked-requires
+marked-requires c κs = search needs
 
 returns : tie.Need-returns
 unfolding repeats if_then_else_
-returns c = simp (c .before .before .before .enum-told3 .given .1, c .before .before .if1 .taken, c .before .version .ensures)
+returns c = simp (c .before .before .before .before .before .enum-told3 .given .1, ← c .before .before .before .before .of .ensures, ← c .before .before .agrees .ensures, c .before .if1 .taken) (c .marked .ensures)
 
 returns-2 : tie.Need-returns-2
 unfolding repeats
@@ -31,7 +40,7 @@ returns-3 c = simp (c .enum-told2 .given .1)
 
 returns-4 : tie.Need-returns-4
 unfolding repeats if_then_else_
-returns-4 c = simp (c .before .enum-told3 .given .1, c .if1 .left)
+returns-4 c = simp (c .before .before .before .before .enum-told3 .given .1, ← c .before .before .before .of .ensures, ← c .before .agrees .ensures, c .if1 .left)
 
 pub repeats-spec : {M : Type 1} → statement M
 repeats-spec =
@@ -40,7 +49,9 @@ repeats-spec =
     enum-told
     enum-told-2
     enum-told-3
-    version-requires
+    of-requires
+    agrees-requires
+    marked-requires
     returns
     returns-2
     returns-3
