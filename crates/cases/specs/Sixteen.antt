@@ -23,7 +23,8 @@ use Rattle.pat.specs.declared.ProgramDescriptor.the-variants.{Network, Program}
 use Rattle.pat.specs.Programs.{programOf, programAt}
 use Rattle.pmt.specs.Streams.{streamOf, streamAt}
 use Rattle.memory.specs.declared.Form.{Form}
-use Rattle.memory.specs.Memory.{soundMemory, repeats}
+use Rattle.marks.specs.Marks.{anyMarked}
+use Rattle.memory.specs.Memory.{soundMemory, agrees, repeats}
 use Rattle.gathering_rules.specs.Checks.{checked}
 use Rattle.gathering_rules.specs.Start.{startRefusal}
 use Rattle.reader.specs.State.{soundCounts, sound, fresh}
@@ -225,7 +226,7 @@ abbrev _then_ : {A B : Type 0} → A → B → A × B
 _then_ a b = (a, b)
 
 pub sixteen : Sixteen
-unfolding if_then_else_ lowBits bitString number numberAt size offset width valueOf _plusPolynomialIf_ bitStep bitEnters bitsEnter crcFrom crcOf ofAPacket packet-header.fieldsOf packet-header.headerOf startingAt payloadBehind payloadOf flagsOf wherePresent ofAField adaptationFieldOf part pcrOf section-header.fieldsOf section-header.headerOf tableFieldsOf tableHeaderOf foundAt programOf streamOf soundMemory soundCounts sound checked fromAPlace fromThePayload repeats startRefusal tailFrom tailOf begun started headFrom headOf
+unfolding if_then_else_ lowBits bitString number numberAt size offset width valueOf _plusPolynomialIf_ bitStep bitEnters bitsEnter crcFrom crcOf ofAPacket packet-header.fieldsOf packet-header.headerOf startingAt payloadBehind payloadOf flagsOf wherePresent ofAField adaptationFieldOf part pcrOf section-header.fieldsOf section-header.headerOf tableFieldsOf tableHeaderOf foundAt programOf streamOf anyMarked agrees soundMemory soundCounts sound checked fromAPlace fromThePayload repeats startRefusal tailFrom tailOf begun started headFrom headOf
 sixteen = (
   refl,
   refl

@@ -13,7 +13,7 @@ use Rattle.fields.proofs.Choices.{of-both}
 use Rattle.packet.specs.Header.{size}
 use Rattle.memory.specs.declared.Form.{Form}
 use Rattle.memory.specs.declared.Memory.{Memory}
-use Rattle.memory.specs.Memory.{atStart}
+use Rattle.memory.specs.Memory.{onDelivery}
 use Rattle.gathering_rules.specs.Checks.{bufferLength}
 use Rattle.gathering_rules.proofs.Checking.{found-place}
 use Rattle.delivered.specs.Delivered.{partOf, partHeldBy, sectionOf}
@@ -87,7 +87,7 @@ module _ (packet : List ℕ) where
   whole-in-buffer-alike form memory len x y l e =
       rw e
       (of-both (λ (s : Step). Alike packet (outcome s x) (outcome s y)) _ _ _
-      (delivered-alike (idle form memory) len x y l e refl) (idle-alike _ form memory x y))
+      (delivered-alike (idle form (onDelivery form memory (take len y))) len x y l e refl) (idle-alike _ form memory x y))
 
   -- ---- bytes continue
 
@@ -153,7 +153,7 @@ module _ (packet : List ℕ) where
         → Alike packet (started form memory bytes at x) (started form memory bytes at y)
     unfolding started
     started-alike form memory bytes at few =
-        alike-either-way _ _ _ _ _ (λ none. begun-alike form (atStart form memory bytes) bytes at few)
+        alike-either-way _ _ _ _ _ (λ none. begun-alike form memory bytes at few)
         (λ refusal. idle-alike _ form _ x y)
 
     -- readers of one form that remember the same, whatever else their states are

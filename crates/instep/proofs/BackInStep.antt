@@ -21,7 +21,8 @@ use Rattle.reader.specs.Run.{headAfter}
 use Rattle.reader.proofs.Checking.{goes-on}
 use Rattle.reader.proofs.Keeping.{Keeps, tail-keeps, head-keeps}
 use Rattle.instep.specs.Seen.{Seen, seen, seenOver, seenFromHead, tailBehind}
-use Rattle.instep.proofs.Forms.{history-kept, tail-form}
+use Rattle.reader.proofs.Forms.{tail-form}
+use Rattle.instep.proofs.Forms.{history-kept}
 use Rattle.instep.proofs.Alike.{Alike, tail-alike, head-alike, head-from-unit-start-alike}
 
 step-alike : (packet : List ℕ) (a b : Outcome) → Alike packet a b → a .step ≡ b .step
@@ -60,15 +61,15 @@ over-alike (packet ∷ packets) reader x y s lx ly same =
     ap₂ _∷_ (t .seenAlike) (ap₂ _∷_ (h .seenAlike) (behind-alike packets (over-alike packets) packet _ _ h ha hb))
 
 -- where the payload is found, a sound state with 1,024 bytes goes on from it
-place-of : (packet : List ℕ) → payloadOf packet .number ≡ 0 → (isSound : Bool) (buffer : ℕ) → isSound ≡ true → buffer ≡ bufferLength
+pub place-of : (packet : List ℕ) → payloadOf packet .number ≡ 0 → (isSound : Bool) (buffer : ℕ) → isSound ≡ true → buffer ≡ bufferLength
     → given (payloadOf packet .values) ≡ checked isSound packet buffer
 unfolding checked payloadOf if_then_else_
 place-of packet found isSound buffer s l =
     rw (s, l) (ap (λ (n : ℕ). record { number = n; values = payloadOf packet .values }) (sym found))
 
 -- "Two fresh readers of one form, each lent 1,024 bytes whatever they hold, each with its own history, any packets at all, each worked tail then head, the host
--- returning state and buffer untouched. Then both get the same packets, the first a sound one with a payload and a unit start. If both remember the same
--- version, or both none, once that packet's tail is worked, then from its new section on all answers, states and delivered bytes agree."
+-- returning state and buffer untouched. Then both get the same packets, the first a sound one with a payload and a unit start. If both remember the" "same
+-- memory" "once that packet's tail is worked, then from its new section on all answers, states and delivered bytes agree."
 pub back-in-step : (form : Form) (buffer₁ buffer₂ : List ℕ) → length buffer₁ ≡ bufferLength → length buffer₂ ≡ bufferLength
     → (history₁ history₂ : List (List ℕ)) (packet : List ℕ) (packets : List (List ℕ))
     → payloadOf packet .number ≡ 0 → unitStart packet ≡ true

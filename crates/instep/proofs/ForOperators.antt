@@ -11,7 +11,8 @@ use Rattle.gathering_rules.specs.Checks.{bufferLength}
 use Rattle.reader.specs.Pointer.{unitStart}
 use Rattle.reader.proofs.Keeping.{tail-keeps}
 use Rattle.instep.specs.Seen.{seenFromHead, tailBehind}
-use Rattle.instep.proofs.Forms.{history-kept, tail-form, Forgetful, full, remembers-nothing}
+use Rattle.reader.proofs.Forms.{tail-form}
+use Rattle.instep.proofs.Forms.{history-kept, Forgetful, full, remembers-nothing}
 use Rattle.instep.proofs.BackInStep.{back-in-step}
 
 -- COMPACT and FULL remember nothing once a tail is worked

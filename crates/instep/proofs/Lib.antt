@@ -5,3 +5,4 @@ pub mod WhatIsDelivered
 pub mod WrongReaders
 pub mod ForOperators
 pub mod WhatIsRead
+pub mod WhatIsRemembered

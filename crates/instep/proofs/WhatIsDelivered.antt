@@ -19,7 +19,6 @@ use Rattle.psi.specs.Header.{wanted}
 use Rattle.psi.proofs.Sections.{wanted-by-front}
 use Rattle.memory.specs.declared.Form.{Form}
 use Rattle.memory.specs.declared.Memory.{Memory}
-use Rattle.memory.specs.Memory.{atStart}
 use Rattle.gathering_rules.specs.Checks.{bufferLength, checked}
 use Rattle.gathering_rules.specs.Start.{leastHeld, startRefusal}
 use Rattle.gathering_rules.specs.Verdict.{crcVerdict, verdict}
@@ -40,7 +39,8 @@ use Rattle.reader.proofs.Soundness.{open-sound}
 use Rattle.reader.proofs.Keeping.{tail-keeps, head-keeps, fresh-sound}
 use Rattle.instep.specs.Seen.{seen, tailBehind}
 use Rattle.instep.specs.Fed.{hasPayload, payload, mayStart, fromTarget, continuing, allContinuing, fedFrom, NoneMayStart, LastStart, TestsCrc, full, once, IsFirstOf, ByTail, ByHead}
-use Rattle.instep.proofs.Forms.{tail-form, head-form, history-kept}
+use Rattle.reader.proofs.Forms.{tail-form, head-form}
+use Rattle.instep.proofs.Forms.{history-kept}
 
 -- ---- arithmetic of what is copied
 
@@ -132,12 +132,12 @@ part-within bytes start len fits =
     let short : len ≤ length bytes - start = omega arith in
     test-fails _ _ _ (le-ltb _ _ inside) ∙ test-fails _ _ _ (le-ltb _ _ short)
 
-read-in-buffer : (packet buffer : List ℕ) (len : ℕ) → len ≤ length buffer → sectionOf packet buffer 2 (inBuffer len)
+pub read-in-buffer : (packet buffer : List ℕ) (len : ℕ) → len ≤ length buffer → sectionOf packet buffer 2 (inBuffer len)
     ≡ take len buffer
 unfolding sectionOf partHeldBy if_then_else_
 read-in-buffer packet buffer len fits = part-within buffer 0 len (omega arith)
 
-read-in-packet : (packet buffer : List ℕ) (at len : ℕ) → at + len ≤ length packet → sectionOf packet buffer 2 (inPacket at len)
+pub read-in-packet : (packet buffer : List ℕ) (at len : ℕ) → at + len ≤ length packet → sectionOf packet buffer 2 (inPacket at len)
     ≡ take len (drop at packet)
 unfolding sectionOf partHeldBy if_then_else_
 read-in-packet packet buffer at len fits = part-within packet at len fits
@@ -374,7 +374,7 @@ module _ (form : Form) (history : List (List ℕ)) (packet : List ℕ) (reader :
     unfolding started
     started-leaves =
         let bytes = drop at packet in
-        of-either HeadLeaves _ _ _ (λ none. begun-leaves (atStart (reader .form) (reader .memory) bytes))
+        of-either HeadLeaves _ _ _ (λ none. begun-leaves (reader .memory))
         (λ refusal. leaves-idle _ (reader .form) _ buffer (start-is-not-2 (reader .form) (reader .memory) bytes))
 
   -- a packet in which no section may start is one of the later ones

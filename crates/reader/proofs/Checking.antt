@@ -13,13 +13,16 @@ use Rattle.answers.specs.declared.Refusal.{Refusal}
 use Rattle.answers.proofs.RefusalNumbers.{no-refusal-is-0}
 use Rattle.packet.specs.Payload.{payloadSays}
 use Rattle.packet.specs.declared.Payload.{Payload}
+use Rattle.memory.specs.declared.Memory.{Memory}
 use Rattle.gathering_rules.specs.Checks.{checked}
 use Rattle.gathering_rules.proofs.Checking.{Passed, passed}
 use Rattle.reader.specs.State.{sound}
 use Rattle.reader.specs.Outcome.{Outcome, outcome, answered}
 use Rattle.reader.specs.Checks.{fromAPlace, fromThePayload}
+use Rattle.reader.specs.Gathering.{withMemory, answering, gathered, gatheredOf}
 use Rattle.reader.specs.declared.Reader.{Reader}
-use Rattle.reader.specs.declared.Step.{Step}
+use Rattle.reader.specs.declared.Gathering.{Gathering}
+use Rattle.reader.specs.declared.GatheringStep.{GatheringStep}
 
 module _ (reader : Reader) (packet buffer : List ℕ) where
   -- it goes on from a place that is found
@@ -35,23 +38,27 @@ module _ (reader : Reader) (packet buffer : List ℕ) where
   unfolding fromThePayload fromAPlace
   stays goOn refusal e = rw (← e) (test-fails _ _ _ (ne-eqb _ _ (no-refusal-is-0 refusal)))
 
-  -- the same of the code, which asks whether the state is sound, and is answered a payload
-  module _ (isSound : Bool) (asked : isSound ≡ sound reader) (payload : Payload)
-      (says : payloadSays payload ≡ checked isSound packet (length buffer)) where
-    saysOfState : payloadSays payload ≡ checked (sound reader) packet (length buffer)
-    saysOfState = rw asked at says
+-- the same of the code, which asks whether the state is sound, and is answered a payload
+module _ (memory : Memory) (gathering : Gathering) (packet buffer : List ℕ) (isSound : Bool)
+    (asked : isSound ≡ sound (withMemory memory gathering)) (payload : Payload)
+    (says : payloadSays payload ≡ checked isSound packet (length buffer)) where
+  saysOfState : payloadSays payload ≡ checked (sound (withMemory memory gathering)) packet (length buffer)
+  saysOfState = rw asked at says
 
-    pub refused-step : (goOn : ℕ → Outcome) (refusal : Refusal) → payload ≡ Payload.Refused refusal
-        → (n : ℕ) → n ≡ payloadSays payload .number → (step : Step) → step ≡ answered n reader
-        → outcome step buffer ≡ fromThePayload reader packet buffer goOn
-    refused-step goOn refusal known n numbered step answers =
-        let number = numbered ∙ ap (λ (p : Payload). payloadSays p .number) known in
-        ap (λ (t : Step). outcome t buffer) (answers ∙ ap (λ (i : ℕ). answered i reader) number)
-        ∙ sym (stays goOn refusal (sym (ap payloadSays known) ∙ saysOfState))
+  pub refused-step : (goOn : ℕ → Outcome) (refusal : Refusal) → payload ≡ Payload.Refused refusal
+      → (n : ℕ) → n ≡ payloadSays payload .number → (step : GatheringStep) → step ≡ answering n gathering
+      → gathered step buffer ≡ gatheredOf (fromThePayload (withMemory memory gathering) packet buffer goOn)
+  refused-step goOn refusal known n numbered step answers =
+      let number = numbered ∙ ap (λ (p : Payload). payloadSays p .number) known in
+      ap (λ (t : GatheringStep). gathered t buffer) (answers ∙ ap (λ (i : ℕ). answering i gathering) number)
+      ∙ sym (ap gatheredOf
+      (stays (withMemory memory gathering) packet buffer goOn refusal (sym (ap payloadSays known) ∙ saysOfState)))
 
-    pub step-from : (goOn : ℕ → Outcome) (start : ℕ) → payload ≡ Payload.At start → fromThePayload reader packet buffer goOn
-        ≡ goOn start
-    step-from goOn start known = goes-on goOn start (sym (ap payloadSays known) ∙ saysOfState)
+  pub step-from : (goOn : ℕ → Outcome) (start : ℕ) → payload ≡ Payload.At start
+      → fromThePayload (withMemory memory gathering) packet buffer goOn ≡ goOn start
+  step-from goOn start known =
+      goes-on (withMemory memory gathering) packet buffer goOn start (sym (ap payloadSays known) ∙ saysOfState)
 
-    pub place-passed : (start : ℕ) → payload ≡ Payload.At start → Passed (sound reader) packet (length buffer) start
-    place-passed start known = passed _ _ _ _ (sym (ap payloadSays known) ∙ saysOfState)
+  pub place-passed : (start : ℕ) → payload ≡ Payload.At start
+      → Passed (sound (withMemory memory gathering)) packet (length buffer) start
+  place-passed start known = passed _ _ _ _ (sym (ap payloadSays known) ∙ saysOfState)

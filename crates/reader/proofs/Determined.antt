@@ -3,6 +3,9 @@ use mathlib.Core.Path.{sym, ap, _∙_}
 use denote.Ref.{now}
 use Rattle.fields.specs.Determines.{Determines, DeterminesBoth}
 use Rattle.reader.specs.Outcome.{Outcome}
+use Rattle.reader.specs.Gathering.{Gathered}
+use Rattle.reader.proofs.Gathering.tail_with.Reads as tail-with
+use Rattle.reader.proofs.Gathering.head_with.Reads as head-with
 use Rattle.reader.proofs.Reader.fresh.Reads as fresh
 use Rattle.reader.proofs.Reader.is_sound.Reads as is-sound
 use Rattle.reader.proofs.Reader.tail.Reads as tail
@@ -21,3 +24,11 @@ tail-determined κs arguments x y x-exit y-exit p q =
 pub head-determined : DeterminesBoth head.Post (λ κs exit. now (exit .1 .1 .0))
 head-determined κs arguments x y x-exit y-exit p q =
     (ap (λ (left : Outcome). left .step) (p ∙ sym q), ap (λ (left : Outcome). left .buffer) (p ∙ sym q))
+
+pub tail-with-determined : DeterminesBoth tail-with.Post (λ κs exit. now (exit .1 .1 .1 .0))
+tail-with-determined κs arguments x y x-exit y-exit p q =
+    (ap (λ (left : Gathered). left .step) (p ∙ sym q), ap (λ (left : Gathered). left .buffer) (p ∙ sym q))
+
+pub head-with-determined : DeterminesBoth head-with.Post (λ κs exit. now (exit .1 .1 .1 .0))
+head-with-determined κs arguments x y x-exit y-exit p q =
+    (ap (λ (left : Gathered). left .step) (p ∙ sym q), ap (λ (left : Gathered). left .buffer) (p ∙ sym q))

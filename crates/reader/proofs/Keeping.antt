@@ -7,14 +7,14 @@ use native.Mathlib.Omega.{arith}
 use lib.ListN.{length, drop, length-take, length-drop}
 use borrow.Author.Tests.{eqb-true, le-leb, lt-ltb, ltb-true, leb-false, not-false}
 use Rattle.fields.specs.Choice.{if_then_else_}
-use Rattle.fields.proofs.Choices.{and-holds, of-both, of-either}
+use Rattle.fields.proofs.Choices.{of-both, of-either}
 use Rattle.fields.proofs.LaidBytes.{laid-length}
 use Rattle.packet.specs.Header.{size}
 use Rattle.psi.specs.Header.{wanted}
 use Rattle.memory.specs.declared.Form.{Form}
 use Rattle.memory.specs.declared.Memory.{Memory}
-use Rattle.memory.specs.Memory.{noMemory, soundMemory, atStart}
-use Rattle.memory.proofs.Remembering.{nothing-remembered-sound, at-start-sound, after-refusal-sound}
+use Rattle.memory.specs.Memory.{noMemory, soundMemory}
+use Rattle.memory.proofs.Remembering.{nothing-remembered-sound, on-delivery-sound, after-refusal-sound}
 use Rattle.gathering_rules.specs.Checks.{bufferLength, checked, NotTheHosts}
 use Rattle.gathering_rules.specs.Start.{leastHeld, startRefusal}
 use Rattle.gathering_rules.proofs.Answering.{another, verdict-answers, start-refusal-answers, checked-answers}
@@ -30,7 +30,7 @@ use Rattle.reader.specs.Run.{EveryStep, Worked, worked, run}
 use Rattle.delivered.specs.declared.Place.{Place}
 use Rattle.reader.specs.declared.Reader.{Reader}
 use Rattle.reader.specs.declared.Step.{Step}
-use Rattle.reader.proofs.Soundness.{open-sound}
+use Rattle.reader.proofs.Soundness.{memory-sound, open-sound}
 
 -- what a step keeps
 pub record Keeps (left : Outcome) : Type 0 where
@@ -39,10 +39,6 @@ pub record Keeps (left : Outcome) : Type 0 where
   pub answers : NotTheHosts (left .step .answer)
 
 -- ---- sound states
-
-pub memory-sound : (reader : Reader) → sound reader ≡ true → soundMemory (reader .form) (reader .memory) ≡ true
-unfolding sound
-memory-sound reader h = and-holds _ _ h .0
 
 pub idle-sound : (form : Form) (memory : Memory) → soundMemory form memory ≡ true → sound (idle form memory) ≡ true
 unfolding sound soundCounts if_then_else_
@@ -65,7 +61,11 @@ whole-keeps : (form : Form) (memory : Memory) (place : Place) (section buffer : 
 unfolding whole
 whole-keeps form memory place section buffer h l =
     of-both (λ (step : Step). Keeps (outcome step buffer)) _ _ _
-    (record { soundState = idle-sound form memory h; lent = l; answers = another 2 refl refl })
+    (record {
+      soundState = idle-sound form _ (on-delivery-sound form memory section h);
+      lent = l;
+      answers = another 2 refl refl;
+    })
     (record { soundState = idle-sound form memory h; lent = l; answers = verdict-answers form section })
 
 module _ (reader : Reader) (buffer : List ℕ) (isSound : sound reader ≡ true) (lent : length buffer ≡ bufferLength) where
@@ -112,15 +112,14 @@ module _ (reader : Reader) (buffer : List ℕ) (isSound : sound reader ≡ true)
 
 module _ (form : Form) (memory : Memory) (bytes : List ℕ) (at : ℕ) (buffer : List ℕ) (m : soundMemory form memory ≡ true)
     (lent : length buffer ≡ bufferLength) (few : length bytes ≤ size) where
-  begun-keeps : Starts form memory bytes → soundMemory form (atStart form memory bytes) ≡ true
-      → Keeps (begun form (atStart form memory bytes) bytes at buffer)
+  begun-keeps : Starts form memory bytes → Keeps (begun form memory bytes at buffer)
   unfolding begun
-  begun-keeps s n =
-      of-either Keeps _ _ _ (λ here. whole-keeps form _ _ _ buffer n lent)
+  begun-keeps s =
+      of-either Keeps _ _ _ (λ here. whole-keeps form memory _ _ buffer m lent)
       (λ more.
       let below = leb-false (wanted bytes) (length bytes) more in
       record {
-        soundState = opened-sound form _ (length bytes) (wanted bytes) n (s .least) below (omega (arith, s .limit));
+        soundState = opened-sound form memory (length bytes) (wanted bytes) m (s .least) below (omega (arith, s .limit));
         lent = laid-length buffer 0 bytes (omega arith) ∙ lent;
         answers = another 1 refl refl;
       })
@@ -129,8 +128,7 @@ module _ (form : Form) (memory : Memory) (bytes : List ℕ) (at : ℕ) (buffer :
   unfolding started
   started-keeps =
       of-either Keeps _ _ _
-      (λ none. let s = starts form memory bytes (eqb-true _ _ none) in begun-keeps s
-      (at-start-sound form memory bytes m))
+      (λ none. begun-keeps (starts form memory bytes (eqb-true _ _ none)))
       (λ refusal. record {
         soundState = idle-sound form _ (after-refusal-sound form (startRefusal form memory bytes) memory m);
         lent = lent;

@@ -4,5 +4,7 @@ pub mod Checking
 pub mod Pointers
 pub mod Tails
 pub mod Heads
+pub mod MemoryByAnswer
+pub mod Forms
 pub mod Keeping
 pub mod Determined

@@ -9,7 +9,7 @@ use Rattle.answers.specs.Numbers.{nothingForThisStep, bytesKept, pointerBeyondR
 use Rattle.psi.specs.Header.{wanted}
 use Rattle.memory.specs.declared.Form.{Form}
 use Rattle.memory.specs.declared.Memory.{Memory}
-use Rattle.memory.specs.Memory.{atStart, afterRefusal}
+use Rattle.memory.specs.Memory.{afterRefusal}
 use Rattle.gathering_rules.specs.Start.{startRefusal}
 use Rattle.reader.specs.declared.Reader.{Reader}
 use Rattle.reader.specs.State.{idle, opened}
@@ -28,7 +28,7 @@ begun form memory bytes at buffer =
 -- the bytes from the pointer on, which stand at a place of the packet, start a section, or are refused
 unfoldable pub started : Form → Memory → List ℕ → ℕ → List ℕ → Outcome
 started form memory bytes at buffer =
-    if startRefusal form memory bytes is 0 then begun form (atStart form memory bytes) bytes at buffer
+    if startRefusal form memory bytes is 0 then begun form memory bytes at buffer
     else
     outcome
     (answered (startRefusal form memory bytes) (idle form (afterRefusal (startRefusal form memory bytes) memory)))

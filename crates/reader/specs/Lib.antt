@@ -5,4 +5,5 @@ pub mod Pointer
 pub mod Whole
 pub mod Tail
 pub mod Head
+pub mod Gathering
 pub mod Run

@@ -29,6 +29,6 @@ nowhere = record { holder = Holder.Nowhere; start = 0; len = 0 }
 abbrev pub answered : ℕ → Reader → Step
 answered answer reader = record { reader = reader; place = nowhere; answer = answer }
 
--- "idle, version forgotten"
+-- idle, and "all of it" forgotten
 abbrev pub forgotten : ℕ → Reader → Step
 forgotten answer reader = answered answer (idle (reader .form) noMemory)

@@ -2,13 +2,16 @@
 ghost use mathlib.Core.Path.{_≡_};
 ghost use mathlib.Core.Bool.{true};
 ghost use Prim.Native.Nat.{_+_, _≤_, _<_};
+ghost use Rattle.memory.specs.declared.Memory.{Memory};
+ghost use Rattle.memory_words.specs.Words.{memoryIn};
 ghost use lib.ListN.{length, drop};
 ghost use Rattle.fields.specs.Laid.{laid};
 ghost use Rattle.packet.specs.Header.{size};
 ghost use Rattle.psi.specs.Header.{wanted};
 ghost use Rattle.gathering_rules.specs.Checks.{bufferLength};
-ghost use Rattle.reader.specs.State.{soundCounts, sound, idle, opened, fresh};
-ghost use Rattle.reader.specs.Outcome.{outcome, inBuffer, inPacket, answered};
+ghost use Rattle.reader.specs.State.{soundCounts, sound, fresh, gatheringOf};
+ghost use Rattle.reader.specs.Outcome.{outcome, inBuffer, inPacket};
+ghost use Rattle.reader.specs.Gathering.{withMemory, idling, opening, answering, gathered, gatheredOf, withoutMemory, remembered};
 ghost use Rattle.reader.specs.Pointer.{pointerOf};
 ghost use Rattle.reader.specs.Whole.{whole};
 ghost use Rattle.reader.specs.Tail.{continued, tailFrom, tailOf};
@@ -23,13 +26,15 @@ use gathering_rules::checked;
 use gathering_rules::least_held;
 use gathering_rules::start_refusal;
 use gathering_rules::verdict;
+pub use marks::Marks;
 pub use memory::Form;
 pub use memory::Memory;
-use memory::after_refusal;
+use memory_words::are_sound;
+use memory_words::words_of;
 use packet::Payload;
 use psi::Section;
 
-// The state. Counts of two bytes keep it, and a step's answer, in registers.
+// The state.
 pub struct Reader {
     pub form: Form,
     pub memory: Memory,
@@ -41,6 +46,22 @@ pub struct Reader {
 // A step's answer: its number, the state after it, and the place of a delivered section.
 pub struct Step {
     pub reader: Reader,
+    pub place: Place,
+    pub answer: u8,
+}
+
+// The state without its memory. A step changes the memory by its answer alone, so what a step does inside carries this: with counts of two bytes it goes in
+// registers.
+pub struct Gathering {
+    pub form: Form,
+    pub is_open: bool,
+    pub held: u16,
+    pub wanted: u16,
+}
+
+// A step's answer without the memory.
+pub struct GatheringStep {
+    pub gathering: Gathering,
     pub place: Place,
     pub answer: u8,
 }
@@ -72,56 +93,68 @@ fn in_buffer(len: u16) -> Place
     }
 }
 
-impl Step {
-    // An answer that delivers nothing.
-    fn answered(answer: u8, reader: Reader) -> Self
-        ensures { λ r. ⌜ r ≡ answered answer reader ⌝ }
-    {
-        Step {
-            reader,
-            place: Place {
-                holder: Holder::Nowhere,
-                start: 0,
-                len: 0,
-            },
-            answer,
-        }
-    }
-}
-
 impl Reader {
     // The lent buffer's length.
     pub const BUFFER_SIZE: usize = Buffer::SIZE;
 
-    fn idle(form: Form, memory: Memory) -> Self
-        ensures { λ r. ⌜ r ≡ idle form memory ⌝ }
+    // A reader of this form that has read nothing.
+    pub fn fresh(form: Form) -> Self
+        ensures { λ r. ⌜ r ≡ fresh form ⌝ }
     {
         Reader {
             form,
-            memory,
+            memory: Memory::none(),
             is_open: false,
             held: 0,
             wanted: 0,
         }
     }
 
-    fn opened(form: Form, memory: Memory, held: u16, wanted: u16) -> Self
-        ensures { λ r. ⌜ r ≡ opened form memory held wanted ⌝ }
+    fn gathering(self) -> Gathering
+        ensures { λ r. ⌜ r ≡ gatheringOf self ⌝ }
     {
-        Reader {
+        let form = self.form;
+        Gathering {
             form,
-            memory,
+            is_open: self.is_open,
+            held: self.held,
+            wanted: self.wanted,
+        }
+    }
+
+    pub fn is_sound(self) -> bool
+        ensures { λ r. ⌜ r ≡ sound self ⌝ }
+    {
+        let memory = self.memory;
+        let form = self.form;
+        if memory.is_sound(form) {
+            return self.gathering().counts_are_sound();
+        }
+        false
+    }
+}
+
+impl Gathering {
+    fn idle(form: Form) -> Self
+        ensures { λ r. ⌜ r ≡ idling form ⌝ }
+    {
+        Gathering {
+            form,
+            is_open: false,
+            held: 0,
+            wanted: 0,
+        }
+    }
+
+    fn opened(form: Form, held: u16, wanted: u16) -> Self
+        ensures { λ r. ⌜ r ≡ opening form held wanted ⌝ }
+    {
+        Gathering {
+            form,
             is_open: true,
             held,
             wanted,
         }
-    }
-
-    // A reader of this form that has read nothing.
-    pub fn fresh(form: Form) -> Self
-        ensures { λ r. ⌜ r ≡ fresh form ⌝ }
-    {
-        Reader::idle(form, Memory::none())
     }
 
     fn counts_are_sound(self) -> bool
@@ -142,15 +175,52 @@ impl Reader {
         false
     }
 
-    pub fn is_sound(self) -> bool
-        ensures { λ r. ⌜ r ≡ sound self ⌝ }
+    // Whether it is sound, with what these words remember.
+    fn is_sound(self, memory: &[u64]) -> bool
+        ensures { λ r. ⌜ r ≡ sound (withMemory (memoryIn (now (memory .entry))) self) ⌝ }
     {
-        let memory = self.memory;
         let form = self.form;
-        if memory.is_sound(form) {
+        if are_sound(memory, form) {
             return self.counts_are_sound();
         }
         false
+    }
+}
+
+impl GatheringStep {
+    // An answer that delivers nothing.
+    fn answered(answer: u8, gathering: Gathering) -> Self
+        ensures { λ r. ⌜ r ≡ answering answer gathering ⌝ }
+    {
+        GatheringStep {
+            gathering,
+            place: Place {
+                holder: Holder::Nowhere,
+                start: 0,
+                len: 0,
+            },
+            answer,
+        }
+    }
+
+    // The step of a reader that remembered this, and that delivered this section.
+    fn remembered(self, memory: Memory, section: &[u8]) -> Step
+        ensures { λ r. ⌜ r ≡ remembered memory self (now (section .entry)) ⌝ }
+    {
+        let gathering = self.gathering;
+        let form = gathering.form;
+        let place = self.place;
+        Step {
+            reader: Reader {
+                form,
+                memory: memory.after(self.answer, form, section),
+                is_open: gathering.is_open,
+                held: gathering.held,
+                wanted: gathering.wanted,
+            },
+            place,
+            answer: self.answer,
+        }
     }
 }
 
@@ -185,30 +255,29 @@ fn lay(buffer: &mut [u8], at: usize, bytes: &[u8])
 }
 
 // How a whole section that lies there ends.
-fn whole(form: Form, memory: Memory, place: Place, section: &[u8]) -> Step
-    ensures { λ r. ⌜ r ≡ whole form memory place (now (section .entry)) ⌝ }
+fn whole(form: Form, place: Place, section: &[u8]) -> GatheringStep
+    ensures { λ r. ⌜ ((memory : Memory) → r ≡ withoutMemory (whole form memory place (now (section .entry)))) ⌝ }
 {
     let answer = verdict(form, section);
     if answer == Answer::DELIVERED {
-        return Step {
-            reader: Reader::idle(form, memory),
+        return GatheringStep {
+            gathering: Gathering::idle(form),
             place,
             answer: Answer::DELIVERED,
         };
     }
-    Step::answered(answer, Reader::idle(form, memory))
+    GatheringStep::answered(answer, Gathering::idle(form))
 }
 
-impl Reader {
+impl Gathering {
     // The bytes continue the open section.
-    fn continued(self, bytes: &[u8], buffer: &mut [u8]) -> Step
-        requires { ⌜ (length (now buffer) ≡ bufferLength) × (sound self ≡ true) ⌝ }
-        ensures { λ r. ⌜ outcome r (now (buffer .exit)) ≡ continued self (now (bytes .entry)) (now (buffer .entry)) ⌝ }
+    fn continued(self, bytes: &[u8], buffer: &mut [u8]) -> GatheringStep
+        requires { ⌜ (length (now buffer) ≡ bufferLength) × (soundCounts self ≡ true) ⌝ }
+        ensures { λ r. ⌜ ((memory : Memory) → gathered r (now (buffer .exit)) ≡ gatheredOf (continued (withMemory memory self) (now (bytes .entry)) (now (buffer .entry)))) ⌝ }
     {
         let form = self.form;
-        let memory = self.memory;
         if !self.is_open {
-            return Step::answered(Answer::NO_SECTION_OPEN, Reader::idle(form, memory));
+            return GatheringStep::answered(Answer::NO_SECTION_OPEN, Gathering::idle(form));
         }
         let held = self.held as usize;
         let wanted = self.wanted as usize;
@@ -216,25 +285,25 @@ impl Reader {
         if bytes.len() < missing {
             lay(buffer, held, bytes);
             let more = (held + bytes.len()) as u16;
-            return Step::answered(
+            return GatheringStep::answered(
                 Answer::BYTES_KEPT,
-                Reader::opened(form, memory, more, self.wanted),
+                Gathering::opened(form, more, self.wanted),
             );
         }
         lay(buffer, held, &bytes[..missing]);
-        whole(form, memory, in_buffer(self.wanted), &buffer[..wanted])
+        whole(form, in_buffer(self.wanted), &buffer[..wanted])
     }
 
     // The tail step on a payload that starts there.
-    fn tail_from(self, packet: &[u8], start: usize, buffer: &mut [u8]) -> Step
-        requires { ⌜ (length (now packet) ≡ size) × (start < size) × (length (now buffer) ≡ bufferLength) × (sound self ≡ true) ⌝ }
-        ensures { λ r. ⌜ outcome r (now (buffer .exit)) ≡ tailFrom self (now (packet .entry)) (drop start (now (packet .entry))) (now (buffer .entry)) ⌝ }
+    fn tail_from(self, packet: &[u8], start: usize, buffer: &mut [u8]) -> GatheringStep
+        requires { ⌜ (length (now packet) ≡ size) × (start < size) × (length (now buffer) ≡ bufferLength) × (soundCounts self ≡ true) ⌝ }
+        ensures { λ r. ⌜ ((memory : Memory) → gathered r (now (buffer .exit)) ≡ gatheredOf (tailFrom (withMemory memory self) (now (packet .entry)) (drop start (now (packet .entry))) (now (buffer .entry)))) ⌝ }
     {
         match pointer_at(packet, start) {
             Pointer::NoUnitStart => self.continued(&packet[start..], buffer),
             Pointer::To(to) => {
                 if to == 0 {
-                    return Step::answered(Answer::NOTHING_FOR_THIS_STEP, self);
+                    return GatheringStep::answered(Answer::NOTHING_FOR_THIS_STEP, self);
                 }
                 let from = start + 1;
                 let end = from + to;
@@ -242,20 +311,39 @@ impl Reader {
             }
             Pointer::BeyondRest => {
                 let form = self.form;
-                Step::answered(Answer::POINTER_BEYOND_REST, Reader::fresh(form))
+                GatheringStep::answered(Answer::POINTER_BEYOND_REST, Gathering::idle(form))
             }
         }
     }
 
+    // The tail step, where what is remembered is lent as words; `memory_words::remember` writes what is remembered after it.
+    pub fn tail_with(self, memory: &[u64], packet: &[u8], buffer: &mut [u8]) -> GatheringStep
+        ensures { λ r. ⌜ gathered r (now (buffer .exit)) ≡ gatheredOf (tailOf (withMemory (memoryIn (now (memory .entry))) self) (now (packet .entry)) (now (buffer .entry))) ⌝ }
+    {
+        let payload = checked(self.is_sound(memory), packet, buffer.len());
+        let Payload::At(start) = payload else {
+            return GatheringStep::answered(payload.number(), self);
+        };
+        self.tail_from(packet, start, buffer)
+    }
+}
+
+// The memory as words that are lent to a step.
+fn as_words(memory: Memory) -> [u64; 5]
+    ensures { λ r. ⌜ memoryIn r ≡ memory ⌝ }
+{
+    words_of(memory)
+}
+
+impl Reader {
     // The tail step: what the packet holds of the section that is open.
     pub fn tail(self, packet: &[u8], buffer: &mut [u8]) -> Step
         ensures { λ r. ⌜ outcome r (now (buffer .exit)) ≡ tailOf self (now (packet .entry)) (now (buffer .entry)) ⌝ }
     {
-        let payload = checked(self.is_sound(), packet, buffer.len());
-        let Payload::At(start) = payload else {
-            return Step::answered(payload.number(), self);
-        };
-        self.tail_from(packet, start, buffer)
+        let words = as_words(self.memory);
+        let step = self.gathering().tail_with(&words, packet, buffer);
+        let end = step.place.len as usize;
+        step.remembered(self.memory, &buffer[..end])
     }
 }
 
@@ -271,62 +359,80 @@ fn wanted(section: &[u8]) -> u16
 }
 
 // A section starts with these bytes, which stand at `at` in the packet: it is whole, or all of them are kept.
-fn begun(form: Form, memory: Memory, bytes: &[u8], at: usize, buffer: &mut [u8]) -> Step
+fn begun(form: Form, bytes: &[u8], at: usize, buffer: &mut [u8]) -> GatheringStep
     requires { ⌜ (3 ≤ length (now bytes)) × (length (now bytes) ≤ size) × (at ≤ size) × (length (now buffer) ≡ bufferLength) ⌝ }
-    ensures { λ r. ⌜ outcome r (now (buffer .exit)) ≡ begun form memory (now (bytes .entry)) at (now (buffer .entry)) ⌝ }
+    ensures { λ r. ⌜ ((memory : Memory) → gathered r (now (buffer .exit)) ≡ gatheredOf (begun form memory (now (bytes .entry)) at (now (buffer .entry)))) ⌝ }
 {
     let size = wanted(bytes);
     let end = size as usize;
     if end <= bytes.len() {
-        return whole(form, memory, in_packet(at as u16, size), &bytes[..end]);
+        return whole(form, in_packet(at as u16, size), &bytes[..end]);
     }
     lay(buffer, 0, bytes);
-    Step::answered(
+    GatheringStep::answered(
         Answer::BYTES_KEPT,
-        Reader::opened(form, memory, bytes.len() as u16, size),
+        Gathering::opened(form, bytes.len() as u16, size),
     )
 }
 
 // The bytes, which stand at `at` in the packet, start a section, or are refused.
-fn started(form: Form, memory: Memory, bytes: &[u8], at: usize, buffer: &mut [u8]) -> Step
+fn started(form: Form, memory: &[u64], bytes: &[u8], at: usize, buffer: &mut [u8]) -> GatheringStep
     requires { ⌜ (length (now bytes) ≤ size) × (at ≤ size) × (length (now buffer) ≡ bufferLength) ⌝ }
-    ensures { λ r. ⌜ outcome r (now (buffer .exit)) ≡ started form memory (now (bytes .entry)) at (now (buffer .entry)) ⌝ }
+    ensures { λ r. ⌜ gathered r (now (buffer .exit)) ≡ gatheredOf (started form (memoryIn (now (memory .entry))) (now (bytes .entry)) at (now (buffer .entry))) ⌝ }
 {
     let refusal = start_refusal(form, memory, bytes);
     if refusal == 0 {
-        let remembered = memory.at_start(form, bytes);
-        return begun(form, remembered, bytes, at, buffer);
+        return begun(form, bytes, at, buffer);
     }
-    let remembered = after_refusal(refusal, memory);
-    Step::answered(refusal, Reader::idle(form, remembered))
+    GatheringStep::answered(refusal, Gathering::idle(form))
 }
 
-impl Reader {
-    // The head step on a payload that starts there.
-    fn head_from(self, packet: &[u8], start: usize, buffer: &mut [u8]) -> Step
+impl Gathering {
+    // The head step on a payload that starts there, of a reader that remembers this.
+    fn head_from(
+        self,
+        memory: &[u64],
+        packet: &[u8],
+        start: usize,
+        buffer: &mut [u8],
+    ) -> GatheringStep
         requires { ⌜ (length (now packet) ≡ size) × (start < size) × (length (now buffer) ≡ bufferLength) ⌝ }
-        ensures { λ r. ⌜ outcome r (now (buffer .exit)) ≡ headFrom self (now (packet .entry)) start (now (buffer .entry)) ⌝ }
+        ensures { λ r. ⌜ gathered r (now (buffer .exit)) ≡ gatheredOf (headFrom (withMemory (memoryIn (now (memory .entry))) self) (now (packet .entry)) start (now (buffer .entry))) ⌝ }
     {
         let form = self.form;
         match pointer_at(packet, start) {
-            Pointer::NoUnitStart => Step::answered(Answer::NOTHING_FOR_THIS_STEP, self),
+            Pointer::NoUnitStart => GatheringStep::answered(Answer::NOTHING_FOR_THIS_STEP, self),
             Pointer::To(to) => {
-                let memory = self.memory;
                 let at = start + 1 + to;
                 started(form, memory, &packet[at..], at, buffer)
             }
-            Pointer::BeyondRest => Step::answered(Answer::POINTER_BEYOND_REST, Reader::fresh(form)),
+            Pointer::BeyondRest => {
+                GatheringStep::answered(Answer::POINTER_BEYOND_REST, Gathering::idle(form))
+            }
         }
     }
 
+    // The head step, where what is remembered is lent as words; `memory_words::remember` writes what is remembered after it.
+    pub fn head_with(self, memory: &[u64], packet: &[u8], buffer: &mut [u8]) -> GatheringStep
+        ensures { λ r. ⌜ gathered r (now (buffer .exit)) ≡ gatheredOf (headOf (withMemory (memoryIn (now (memory .entry))) self) (now (packet .entry)) (now (buffer .entry))) ⌝ }
+    {
+        let payload = checked(self.is_sound(memory), packet, buffer.len());
+        let Payload::At(start) = payload else {
+            return GatheringStep::answered(payload.number(), self);
+        };
+        self.head_from(memory, packet, start, buffer)
+    }
+}
+
+impl Reader {
     // The head step: the section that starts in the packet.
     pub fn head(self, packet: &[u8], buffer: &mut [u8]) -> Step
         ensures { λ r. ⌜ outcome r (now (buffer .exit)) ≡ headOf self (now (packet .entry)) (now (buffer .entry)) ⌝ }
     {
-        let payload = checked(self.is_sound(), packet, buffer.len());
-        let Payload::At(start) = payload else {
-            return Step::answered(payload.number(), self);
-        };
-        self.head_from(packet, start, buffer)
+        let words = as_words(self.memory);
+        let step = self.gathering().head_with(&words, packet, buffer);
+        let from = step.place.start as usize;
+        let end = from + step.place.len as usize;
+        step.remembered(self.memory, &packet[from..end])
     }
 }

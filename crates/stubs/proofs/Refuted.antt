@@ -12,7 +12,8 @@ use Rattle.fields.specs.Laid.{laid}
 use Rattle.packet.specs.Header.{ofAPacket}
 use Rattle.packet.specs.Payload.{startingAt, payloadBehind}
 use Rattle.memory.specs.declared.Form.{Form}
-use Rattle.memory.specs.Memory.{noMemory, soundMemory, repeats}
+use Rattle.marks.specs.Marks.{anyMarked}
+use Rattle.memory.specs.Memory.{noMemory, soundMemory, agrees, repeats, onDelivery}
 use Rattle.gathering_rules.specs.Checks.{checked}
 use Rattle.gathering_rules.specs.Start.{startRefusal}
 use Rattle.gathering_rules.specs.Verdict.{verdict}
@@ -59,34 +60,34 @@ due-3 = refl
 due-0 : answerOf (tailOf (fresh Form.Compact) pointing0 buffer) ≡ 0
 unfolding
     answerOf pointing0 buffer if_then_else_ lowBits bitString number numberAt offset width valueOf
-    ofAPacket startingAt payloadBehind soundMemory soundCounts sound checked fromAPlace fromThePayload tailFrom tailOf
+    ofAPacket startingAt payloadBehind anyMarked agrees soundMemory soundCounts sound checked fromAPlace fromThePayload tailFrom tailOf
 due-0 = refl
 
 due-1 : answerOf (tailOf wantsMany continuing buffer) ≡ 1
 unfolding
     answerOf wantsMany continuing buffer if_then_else_ lowBits bitString number numberAt offset width valueOf
-    ofAPacket startingAt payloadBehind soundMemory soundCounts sound checked fromAPlace fromThePayload continued tailFrom tailOf
+    ofAPacket startingAt payloadBehind anyMarked agrees soundMemory soundCounts sound checked fromAPlace fromThePayload continued tailFrom tailOf
 due-1 = refl
 
 due-open : headOf (fresh Form.Compact) starting buffer .step .reader .«is_open» ≡ true
 unfolding
     starting buffer if_then_else_ lowBits bitString number numberAt offset width valueOf
-    ofAPacket startingAt payloadBehind soundMemory soundCounts sound checked fromAPlace fromThePayload
+    ofAPacket startingAt payloadBehind anyMarked agrees soundMemory soundCounts sound checked fromAPlace fromThePayload
     repeats startRefusal begun started headFrom headOf
 due-open = refl
 
 due-finished : take 4 (tailOf wantsOne starting buffer .buffer) ≡ 0xaa ∷ 0xaa ∷ 0xaa ∷ 0xbb ∷ []
 unfolding
     starting wantsOne buffer if_then_else_ lowBits bitString number numberAt offset width valueOf laid
-    ofAPacket startingAt payloadBehind soundMemory soundCounts sound checked fromAPlace fromThePayload
-    verdict whole continued tailFrom tailOf
+    ofAPacket startingAt payloadBehind anyMarked agrees soundMemory soundCounts sound checked fromAPlace fromThePayload
+    verdict onDelivery whole continued tailFrom tailOf
 due-finished = refl
 
 overwritten : take 4 (bothInOneCall wantsOne starting buffer .buffer) ≡ 0x00 ∷ 0x30 ∷ 0xff ∷ 0x00 ∷ []
 unfolding
     starting wantsOne buffer if_then_else_ lowBits bitString number numberAt offset width valueOf laid
-    ofAPacket startingAt payloadBehind soundMemory soundCounts sound checked fromAPlace fromThePayload
-    verdict whole continued tailFrom tailOf repeats startRefusal begun started headFrom headOf
+    ofAPacket startingAt payloadBehind anyMarked agrees soundMemory soundCounts sound checked fromAPlace fromThePayload
+    verdict onDelivery whole continued tailFrom tailOf repeats startRefusal begun started headFrom headOf
 overwritten = refl
 
 -- ---- the stubs

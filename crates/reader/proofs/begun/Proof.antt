@@ -3,7 +3,6 @@ use mathlib.Core.Path.{sym}
 use lib.Seq.{length-take-le}
 use borrow.Author.Tests.{le-leb, lt-leb}
 use Rattle.fields.specs.Choice.{if_then_else_}
-use Rattle.reader.specs.Outcome.{answered}
 use Rattle.reader.specs.Head.{begun}
 use borrow.Author.Needs.{needs}
 use Rattle.reader.proofs.begun.Statement.{statement}
@@ -29,12 +28,12 @@ whole-requires c κs = search needs
 
 returns : tie.Need-returns
 unfolding begun if_then_else_
-returns c =
+returns c memory =
     simp (
       ← c .before .before .before .before .wanted .ensures,
       le-leb _ _ (c .before .before .before .if1 .taken),
       ← c .before .before .in-packet .ensures,
-      ← c .whole .ensures,
+      ← c .whole .ensures memory,
     )
 
 lay-requires : tie.Need-lay-requires
@@ -54,7 +53,7 @@ same-length c = search needs
 
 returns-2 : tie.Need-returns-2
 unfolding begun if_then_else_
-returns-2 c =
+returns-2 c memory =
     simp (
       ← c .before .before .before .before .before .before .before .wanted .ensures,
       lt-leb _ _ (c .before .before .before .before .before .before .if1 .left),

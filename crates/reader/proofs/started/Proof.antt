@@ -1,8 +1,9 @@
 -- `reader::started` meets its contract: refused, or begun. Assumes nothing.
 use mathlib.Core.Path.{sym, _∙_}
 use borrow.Author.Tests.{eq-eqb, ne-eqb}
+use denote.Ref.{now}
 use Rattle.fields.specs.Choice.{if_then_else_}
-use Rattle.reader.specs.Outcome.{answered}
+use Rattle.memory_words.specs.Words.{memoryIn}
 use Rattle.reader.specs.Head.{started}
 use Rattle.gathering_rules.proofs.Starts.{starts}
 use borrow.Author.Needs.{needs}
@@ -12,12 +13,9 @@ use Rattle.reader.proofs.started.Tie as tie
 start-refusal-requires : tie.Need-start-refusal-requires
 start-refusal-requires c κs = search needs
 
-at-start-requires : tie.Need-at-start-requires
-at-start-requires c κs = search needs
-
 begun-requires : tie.Need-begun-requires
 begun-requires c κs = (
-  starts _ _ _ (sym (c .before .before .before .start-refusal .ensures) ∙ c .before .before .if1 .taken) .three,
+  starts _ _ _ (sym (c .before .before .start-refusal .ensures) ∙ c .before .if1 .taken) .three,
   c .before .before .before .before .before .before .pre .0,
   c .before .before .before .before .before .before .pre .1,
   c .before .before .before .before .before .before .pre .2,
@@ -30,14 +28,10 @@ returns : tie.Need-returns
 unfolding started if_then_else_
 returns c =
     simp (
-      ← c .before .before .before .before .before .before .start-refusal .ensures,
-      eq-eqb _ _ (c .before .before .before .before .before .if1 .taken),
-      ← c .before .before .before .before .at-start .ensures,
+      ← c .before .before .before .before .before .start-refusal .ensures,
+      eq-eqb _ _ (c .before .before .before .before .if1 .taken),
     )
-    (c .before .before .begun .ensures)
-
-after-refusal-requires : tie.Need-after-refusal-requires
-after-refusal-requires c κs = search needs
+    (c .before .before .begun .ensures (memoryIn (now (c .before .before .before .before .before .before .before .before .before .args .memory))))
 
 idle-requires : tie.Need-idle-requires
 idle-requires c κs = search needs
@@ -49,9 +43,8 @@ returns-2 : tie.Need-returns-2
 unfolding started if_then_else_
 returns-2 c =
     simp (
-      ← c .before .before .before .before .start-refusal .ensures,
-      ne-eqb _ _ (c .before .before .before .if1 .left),
-      ← c .before .before .after-refusal .ensures,
+      ← c .before .before .before .start-refusal .ensures,
+      ne-eqb _ _ (c .before .before .if1 .left),
       ← c .before .idle .ensures,
       ← c .answered .ensures,
     )
@@ -61,11 +54,9 @@ started-spec =
     tie.close
     (tie.spec
     start-refusal-requires
-    at-start-requires
     begun-requires
     same-length
     returns
-    after-refusal-requires
     idle-requires
     answered-requires
     returns-2)

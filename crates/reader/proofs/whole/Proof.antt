@@ -14,7 +14,7 @@ idle-requires c κs = search needs
 
 returns : tie.Need-returns
 unfolding whole if_then_else_
-returns c = simp (← c .before .before .verdict .ensures, eq-eqb _ _ (c .before .if1 .taken), c .idle .ensures)
+returns c memory = simp (← c .before .before .verdict .ensures, eq-eqb _ _ (c .before .if1 .taken), c .idle .ensures)
 
 idle-requires-2 : tie.Need-idle-requires-2
 idle-requires-2 c κs = search needs
@@ -24,7 +24,7 @@ answered-requires c κs = search needs
 
 returns-2 : tie.Need-returns-2
 unfolding whole if_then_else_
-returns-2 c =
+returns-2 c memory =
     simp (← c .before .before .before .verdict .ensures, ne-eqb _ _ (c .before .before .if1 .left), ← c .before .idle2 .ensures)
     (c .answered .ensures)
 

@@ -1,72 +1,66 @@
--- `reader::Reader::tail` meets its contract: the checks, and then the tail from the payload. Assumes nothing.
-use mathlib.Core.Path.{sym, _∙_}
-use borrow.Author.Needs.{needs}
+-- `reader::Reader::tail` meets its contract: the tail step of the gathering, and what is remembered then. Assumes nothing.
+use mathlib.Core.Path.{sym, ap, _∙_}
+use native.Mathlib.Omega.{arith}
+use lib.Seq.{length-take-le}
 use denote.Ref.{now}
-use Rattle.reader.specs.Tail.{tailOf}
-use Rattle.reader.proofs.Checking.{refused-step, step-from, place-passed}
+use Rattle.reader.specs.Outcome.{outcome}
+use Rattle.reader.proofs.MemoryByAnswer.{tail-place-fits, tail-remembered}
+use borrow.Author.Needs.{needs}
 use Rattle.reader.proofs.Reader.tail.Statement.{statement}
 use Rattle.reader.proofs.Reader.tail.Tie as tie
 
-is-sound-requires : tie.Need-is-sound-requires
-is-sound-requires c κs = search needs
+as-words-requires : tie.Need-as-words-requires
+as-words-requires c κs = search needs
 
-checked-requires : tie.Need-checked-requires
-checked-requires c κs = search needs
+gathering-requires : tie.Need-gathering-requires
+gathering-requires c κs = search needs
 
-enum-known-payload : tie.Need-enum-known-payload
-enum-known-payload c = search needs
+slice-aggregate-tail-with : tie.Need-slice-aggregate-tail-with
+slice-aggregate-tail-with c = search needs
 
-enum-told : tie.Need-enum-told
-enum-told c = search needs
+tail-with-requires : tie.Need-tail-with-requires
+tail-with-requires c κs = search needs
 
-number-requires : tie.Need-number-requires
-number-requires c κs = search needs
+cast-end : tie.Need-cast-end
+cast-end c = search needs
 
-answered-requires : tie.Need-answered-requires
-answered-requires c κs = search needs
+slice-reshare-prefix-remembered : tie.Need-slice-reshare-prefix-remembered
+slice-reshare-prefix-remembered c =
+    let a = c .before .before .before .before .before .before .before .before .before .before .args in
+    let step = c .before .before .before .tail-with .result in
+    omega (arith, tail-place-fits (a .self) _ (c .before .before .before .before .before .before .gathering .ensures) _ (c .before .before .before .before .before .before .before .as-words .ensures) step _ (now (a .packet)) (now (a .buffer)) (c .before .before .before .tail-with .ensures))
 
-returns : tie.Need-returns
-unfolding tailOf
-returns c =
-    let a = c .before .before .before .before .before .before .before .before .args in
-    refused-step (a .self) (now (a .packet)) (now (a .buffer)) _ (c .before .before .before .before .before .is-sound .ensures)
-    _ (c .before .before .before .before .checked .ensures)
-    _ (c .before .before .enum-told .given .0 .0) (c .before .before .enum-told .given .1)
-    _ (c .before .number .ensures) _ (c .answered .ensures)
+slice-aggregate-remembered : tie.Need-slice-aggregate-remembered
+slice-aggregate-remembered c =
+    let a = c .before .before .before .before .before .before .before .before .before .before .before .args in
+    let step = c .before .before .before .before .tail-with .result in
+    sym (length-take-le _ _ (omega (arith, tail-place-fits (a .self) _ (c .before .before .before .before .before .before .before .gathering .ensures) _ (c .before .before .before .before .before .before .before .before .as-words .ensures) step _ (now (a .packet)) (now (a .buffer)) (c .before .before .before .before .tail-with .ensures))))
 
-tail-from-requires : tie.Need-tail-from-requires
-tail-from-requires c κs =
-    let a = c .before .before .before .before .before .before .before .before .args in
-    let p = place-passed (a .self) (now (a .packet)) (now (a .buffer)) _
-    (c .before .before .before .before .before .is-sound .ensures)
-    _ (c .before .before .before .before .checked .ensures)
-    _ (c .before .before .payload .given .1) in
-    (p .sized, p .within, p .lent, p .soundState)
+remembered-requires : tie.Need-remembered-requires
+remembered-requires c κs = search needs
 
 same-length : tie.Need-same-length
 same-length c = search needs
 
-returns-2 : tie.Need-returns-2
-unfolding tailOf
-returns-2 c =
-    let a = c .before .before .before .before .before .before .before .before .before .before .before .args in
-    let goes = step-from (a .self) (now (a .packet)) (now (a .buffer)) _
-    (c .before .before .before .before .before .before .before .before .is-sound .ensures)
-    _ (c .before .before .before .before .before .before .before .checked .ensures)
-    _ _ (c .before .before .before .before .before .payload .given .1) in
-    c .before .before .tail-from .ensures ∙ sym goes
+returns : tie.Need-returns
+returns c =
+    let a = c .before .before .before .before .before .before .before .before .before .before .before .before .args in
+    let step = c .before .before .before .before .before .tail-with .result in
+    let after = c .before .before .before .before .before .tail-with .last .1 .1 .1 .0 in
+    ap (λ told. outcome told after) (c .remembered .ensures)
+    ∙ tail-remembered (a .self) _ (c .before .before .before .before .before .before .before .before .gathering .ensures) _ (c .before .before .before .before .before .before .before .before .before .as-words .ensures) step _ (now (a .packet)) (now (a .buffer)) (c .before .before .before .before .before .tail-with .ensures)
 
 pub tail-spec : {M : Type 1} → statement M
 tail-spec =
     tie.close
     (tie.spec
-    is-sound-requires
-    checked-requires
-    enum-known-payload
-    enum-told
-    number-requires
-    answered-requires
-    returns
-    tail-from-requires
+    as-words-requires
+    gathering-requires
+    slice-aggregate-tail-with
+    tail-with-requires
+    cast-end
+    slice-reshare-prefix-remembered
+    slice-aggregate-remembered
+    remembered-requires
     same-length
-    returns-2)
+    returns)

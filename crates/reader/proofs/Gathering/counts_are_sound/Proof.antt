@@ -1,10 +1,10 @@
--- `reader::Reader::counts_are_sound` meets its contract: each way out gives what the tests before it choose. Assumes nothing.
+-- `reader::Gathering::counts_are_sound` meets its contract: each way out gives what the tests before it choose. Assumes nothing.
 use borrow.Author.Tests.{le-leb, lt-leb, lt-ltb, le-ltb, eq-eqb, ne-eqb}
 use Rattle.fields.specs.Choice.{if_then_else_}
 use Rattle.reader.specs.State.{soundCounts}
 use borrow.Author.Needs.{needs}
-use Rattle.reader.proofs.Reader.counts_are_sound.Statement.{statement}
-use Rattle.reader.proofs.Reader.counts_are_sound.Tie as tie
+use Rattle.reader.proofs.Gathering.counts_are_sound.Statement.{statement}
+use Rattle.reader.proofs.Gathering.counts_are_sound.Tie as tie
 
 least-held-requires : tie.Need-least-held-requires
 least-held-requires c κs = search needs

@@ -1,17 +1,17 @@
--- `reader::Reader::tail_from` meets its contract, by what the pointer says. Assumes nothing.
+-- `reader::Gathering::tail_from` meets its contract, by what the pointer says. Assumes nothing.
 use Prim.Native.Nat.{ℕ, _+_}
 use mathlib.Core.Path.{sym, ap, _∙_}
 use mathlib.Core.List.{List}
 use native.Mathlib.Omega.{arith}
 use denote.Ref.{now}
-use Rattle.reader.specs.Outcome.{outcome, answered}
 use Rattle.reader.specs.Tail.{continued}
+use Rattle.reader.specs.Gathering.{withMemory, answering, gathered, gatheredOf}
 use Rattle.delivered.proofs.Parts.{part-to-end, part-of}
 use Rattle.reader.proofs.Pointers.{no-unit-start, points-to, points-beyond, end-within}
 use Rattle.reader.proofs.Tails.{tail-without-unit-start, tail-at-0, tail-up-to, tail-beyond}
 use borrow.Author.Needs.{needs}
-use Rattle.reader.proofs.Reader.tail_from.Statement.{statement}
-use Rattle.reader.proofs.Reader.tail_from.Tie as tie
+use Rattle.reader.proofs.Gathering.tail_from.Statement.{statement}
+use Rattle.reader.proofs.Gathering.tail_from.Tie as tie
 
 pointer-at-requires : tie.Need-pointer-at-requires
 pointer-at-requires c κs = search needs
@@ -38,12 +38,12 @@ answered-requires : tie.Need-answered-requires
 answered-requires c κs = search needs
 
 returns : tie.Need-returns
-returns c =
+returns c memory =
     let a = c .before .before .before .before .before .before .before .before .args in
-    let points = points-to _ _ _ (sym (c .before .before .before .before .before .pointer-at .ensures)
-    ∙ c .before .before .before .to .given .1) in
-    ap (λ step. outcome step (now (a .buffer))) (c .answered .ensures)
-    ∙ sym (tail-at-0 (a .self) (now (a .packet)) (a .start) (now (a .buffer)) (rw (c .before .if1 .taken) at points))
+    let points = points-to _ _ _ (sym (c .before .before .before .before .before .pointer-at .ensures) ∙ c .before .before .before .to .given .1) in
+    ap (λ step. gathered step (now (a .buffer))) (c .answered .ensures)
+    ∙ sym (ap gatheredOf
+    (tail-at-0 (withMemory memory (a .self)) (now (a .packet)) (a .start) (now (a .buffer)) (rw (c .before .if1 .taken) at points)))
 
 add-from : tie.Need-add-from
 add-from c = search needs
@@ -72,8 +72,8 @@ continued-requires-2 c κs = search needs
 enum-told-2 : tie.Need-enum-told-2
 enum-told-2 c = search needs
 
-fresh-requires : tie.Need-fresh-requires
-fresh-requires c κs = search needs
+idle-requires : tie.Need-idle-requires
+idle-requires c κs = search needs
 
 answered-requires-2 : tie.Need-answered-requires-2
 answered-requires-2 c κs = search needs
@@ -82,35 +82,33 @@ same-length : tie.Need-same-length
 same-length c = search needs
 
 returns-2 : tie.Need-returns-2
-returns-2 c =
+returns-2 c memory =
     let a = c .before .before .before .before .before .before .before .before .before .before .args in
-    let unit = no-unit-start _ _ (sym (c .before .before .before .before .before .before .before .pointer-at .ensures)
-    ∙ c .before .before .before .before .before .enum-told .given .1) in
-    c .before .before .continued .ensures
-    ∙ ap (λ (bytes : List ℕ). continued (a .self) bytes (now (a .buffer))) (part-to-end (now (a .packet)) (a .start))
-    ∙ sym (tail-without-unit-start (a .self) (now (a .packet)) (a .start) (now (a .buffer)) unit)
+    let reader = withMemory memory (a .self) in
+    let unit = no-unit-start _ _ (sym (c .before .before .before .before .before .before .before .pointer-at .ensures) ∙ c .before .before .before .before .before .enum-told .given .1) in
+    c .before .before .continued .ensures memory
+    ∙ ap (λ (bytes : List ℕ). gatheredOf (continued reader bytes (now (a .buffer)))) (part-to-end (now (a .packet)) (a .start))
+    ∙ sym (ap gatheredOf (tail-without-unit-start reader (now (a .packet)) (a .start) (now (a .buffer)) unit))
 
 same-length-2 : tie.Need-same-length-2
 same-length-2 c = search needs
 
 returns-3 : tie.Need-returns-3
-returns-3 c =
+returns-3 c memory =
     let a = c .before .before .before .before .before .before .before .before .before .before .before .before .args in
-    let points = points-to _ _ _
-    (sym (c .before .before .before .before .before .before .before .before .before .pointer-at .ensures)
-    ∙ c .before .before .before .before .before .before .before .to .given .1) in
-    c .before .before .continued2 .ensures
-    ∙ ap (λ (bytes : List ℕ). continued (a .self) bytes (now (a .buffer))) (part-of (now (a .packet)) (a .start + 1) _)
-    ∙ sym (tail-up-to (a .self) (now (a .packet)) (a .start) (now (a .buffer)) _ points
-    (c .before .before .before .before .before .if1 .left))
+    let reader = withMemory memory (a .self) in
+    let points = points-to _ _ _ (sym (c .before .before .before .before .before .before .before .before .before .pointer-at .ensures) ∙ c .before .before .before .before .before .before .before .to .given .1) in
+    c .before .before .continued2 .ensures memory
+    ∙ ap (λ (bytes : List ℕ). gatheredOf (continued reader bytes (now (a .buffer)))) (part-of (now (a .packet)) (a .start + 1) _)
+    ∙ sym (ap gatheredOf (tail-up-to reader (now (a .packet)) (a .start) (now (a .buffer)) _ points (c .before .before .before .before .before .if1 .left)))
 
 returns-4 : tie.Need-returns-4
-returns-4 c =
+returns-4 c memory =
     let a = c .before .before .before .before .before .before .before .args in
-    let beyond = points-beyond _ _ (sym (c .before .before .before .before .pointer-at .ensures)
-    ∙ c .before .before .enum-told2 .given .1) in
-    ap (λ step. outcome step (now (a .buffer))) (c .answered2 .ensures ∙ ap (answered 9) (c .before .fresh .ensures))
-    ∙ sym (tail-beyond (a .self) (now (a .packet)) (a .start) (now (a .buffer)) (beyond .0) (beyond .1))
+    let beyond = points-beyond _ _ (sym (c .before .before .before .before .pointer-at .ensures) ∙ c .before .before .enum-told2 .given .1) in
+    ap (λ step. gathered step (now (a .buffer))) (c .answered2 .ensures ∙ ap (answering 9) (c .before .idle .ensures))
+    ∙ sym (ap gatheredOf
+    (tail-beyond (withMemory memory (a .self)) (now (a .packet)) (a .start) (now (a .buffer)) (beyond .0) (beyond .1)))
 
 pub tail-from-spec : {M : Type 1} → statement M
 tail-from-spec =
@@ -132,7 +130,7 @@ tail-from-spec =
     part-continued-end-2
     continued-requires-2
     enum-told-2
-    fresh-requires
+    idle-requires
     answered-requires-2
     same-length
     returns-2
