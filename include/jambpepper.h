@@ -6,17 +6,18 @@
  * proved in the crates capi_*. The proofs end where C begins, so a host must see
  * to this:
  *
- * - a pointer and a length lend that many bytes: they exist, and nothing else
- * writes them during the call. A null pointer with length 0 is allowed wherever
- * bytes are lent: it lends none, and no call reads or writes through it. A
- * null pointer with a length above 0 is not allowed, and no call tests for it;
- * - the buffer of jambpepper_tail and jambpepper_head may be written during the
- * call, and so overlaps no packet;
+ * - a pointer and a length lend that many bytes, of a memory that many words:
+ * they exist, and nothing else writes them during the call. A null pointer with
+ * length 0 is allowed wherever bytes or words are lent: it lends none, and no
+ * call reads or writes through it. A null pointer with a length above 0 is not
+ * allowed, and no call tests for it;
+ * - the buffer and the memory of jambpepper_tail and jambpepper_head may be
+ * written during the call, and so overlap neither the packet nor each other;
  * - a place is read before the bytes that it lies in change: a section in the
  * buffer before the next step, one in the packet as long as the packet stands.
  *
- * Nothing is kept between calls: the state is the host's, and any number of
- * readers may be worked side by side.
+ * Nothing is kept between calls: state, memory and buffer are the host's, and
+ * any number of readers may be worked side by side.
  *
  * Link libjambpepper.a, which `build-library` writes. It needs no other library.
  */
@@ -53,7 +54,7 @@ enum {
   JAMBPEPPER_SYNTAX_INDICATOR = 11,        /* syntax indicator not as the form needs it */
   JAMBPEPPER_UNDER_8_BYTES = 12,           /* under 8 bytes of a section */
   JAMBPEPPER_LENGTH_ABOVE_1021 = 13,       /* section_length above 1,021 */
-  JAMBPEPPER_VERSION_REPEATED = 14,        /* ONCE: version equal to the remembered one */
+  JAMBPEPPER_ALREADY_DELIVERED = 14,       /* ONCE: section already delivered */
   JAMBPEPPER_NO_SECTION_OPEN = 15,         /* bytes that continue no section */
   JAMBPEPPER_SECTION_UNDER_12 = 16,        /* whole section under 12 bytes */
   JAMBPEPPER_CRC_NOT_ZERO = 17,            /* CRC remainder not zero */
@@ -75,6 +76,7 @@ enum {
 enum {
   JAMBPEPPER_PACKET_BYTES = 188,  /* of every packet */
   JAMBPEPPER_BUFFER_BYTES = 1024, /* of the buffer lent to a step */
+  JAMBPEPPER_MEMORY_WORDS = 5,    /* of the memory lent to a step of ONCE */
   JAMBPEPPER_PAT_PID = 0          /* where a PAT is found */
 };
 
@@ -220,19 +222,37 @@ JambpepperStream jambpepper_stream_at(const uint8_t *body, size_t body_length, s
 enum {
   JAMBPEPPER_COMPACT = 0, /* sections without the long header; no CRC */
   JAMBPEPPER_FULL = 1,    /* sections with it, the CRC tested */
-  JAMBPEPPER_ONCE = 2     /* as FULL, each version once */
+  JAMBPEPPER_ONCE = 2     /* as FULL, each section once */
 };
 
-/* The state. The steps answer 25 to one that is not sound, and to a form above
- * 2 or a flag above 1. */
+/* The state, without what ONCE remembers. The steps answer 25 to one that is not
+ * sound, and to a form above 2 or a flag above 1. */
 typedef struct {
   uint8_t form;
-  uint8_t known;   /* 1 where ONCE remembers a version, else 0 */
-  uint8_t version; /* that version, else 0 */
   uint8_t is_open; /* 1 where a section is open, else 0 */
   uint16_t held;   /* the bytes of it that the buffer holds, else 0 */
   uint16_t wanted; /* the bytes that it has, else 0 */
 } JambpepperReader;
+
+/*
+ * What ONCE remembers: the four numbers that the sections it delivered last have
+ * in common, and a mark for the number of each. It is lent to the steps beside
+ * the state, as the buffer is: JAMBPEPPER_MEMORY_WORDS words, all 0 for a fresh
+ * reader, then handed back untouched. COMPACT and FULL remember nothing and are
+ * lent NULL and 0. (In the state it would make 48 bytes, which go through the
+ * stack in each call, in these forms too.)
+ *
+ * The steps answer 25 to any other count of words, to numbers with a bit set above
+ * those named here, and to numbers other than 0 without a mark.
+ */
+enum {
+  /* table_id in bits 0 (the lowest) to 7, id in bits 8 to 23,
+     current_next_indicator in bit 24, version in bits 25 to 29 */
+  JAMBPEPPER_MEMORY_NUMBERS = 0,
+  /* and the words behind it: section number n is marked in word 1 + n / 64, by
+     bit n % 64 */
+  JAMBPEPPER_MEMORY_MARKS = 1
+};
 
 enum { JAMBPEPPER_NOWHERE = 0, JAMBPEPPER_IN_PACKET = 1, JAMBPEPPER_IN_BUFFER = 2 };
 
@@ -249,19 +269,22 @@ typedef struct {
   uint8_t answer; /* 0 to 17, 25 */
 } JambpepperStep;
 
-/* a state that has read nothing; with a form above 2 it is not sound */
+/* a state that has read nothing, for a memory that is all 0; with a form above 2
+ * it is not sound */
 JambpepperReader jambpepper_fresh(uint8_t form);
 
-/* 1 where the steps take this state, else 0 */
-uint8_t jambpepper_is_sound(JambpepperReader reader);
+/* 1 where the steps take this state with this memory, else 0 */
+uint8_t jambpepper_is_sound(JambpepperReader reader, const uint64_t *memory, size_t memory_words);
 
 /* what the packet holds of the section that is open */
-JambpepperStep jambpepper_tail(JambpepperReader reader, const uint8_t *packet, size_t packet_length,
-                               uint8_t *buffer, size_t buffer_length);
+JambpepperStep jambpepper_tail(JambpepperReader reader, uint64_t *memory, size_t memory_words,
+                               const uint8_t *packet, size_t packet_length, uint8_t *buffer,
+                               size_t buffer_length);
 
 /* the section that starts in the packet */
-JambpepperStep jambpepper_head(JambpepperReader reader, const uint8_t *packet, size_t packet_length,
-                               uint8_t *buffer, size_t buffer_length);
+JambpepperStep jambpepper_head(JambpepperReader reader, uint64_t *memory, size_t memory_words,
+                               const uint8_t *packet, size_t packet_length, uint8_t *buffer,
+                               size_t buffer_length);
 
 /*
  * The place, where the answer is 2 and the place has bytes that lie within those lent; else

@@ -52,9 +52,9 @@ static int print_pats(FILE *file) {
 
     if (header.answer != JAMBPEPPER_GIVEN || header.pid != JAMBPEPPER_PAT_PID)
       continue;
-    step = jambpepper_tail(reader, packet, sizeof packet, buffer, sizeof buffer);
+    step = jambpepper_tail(reader, NULL, 0, packet, sizeof packet, buffer, sizeof buffer);
     sections += print_delivered(packets, step);
-    step = jambpepper_head(step.reader, packet, sizeof packet, buffer, sizeof buffer);
+    step = jambpepper_head(step.reader, NULL, 0, packet, sizeof packet, buffer, sizeof buffer);
     sections += print_delivered(packets, step);
     reader = step.reader;
   }

@@ -1,8 +1,8 @@
 /*
  * calls: every function of include/jambpepper.h, called from C (or C++) on inputs whose answers
- * follow from document 01. Every number of every struct is looked at with a value of its own, so
- * that a struct laid out otherwise on the two sides is noticed. A difference is printed, and the
- * exit status is 1.
+ * follow from docs/RULES.md. Every number of every struct, and every word of a memory, is looked at
+ * with a value of its own, so that one laid out otherwise on the two sides is noticed. A difference
+ * is printed, and the exit status is 1.
  */
 #include "jambpepper.h"
 #include <stdio.h>
@@ -26,9 +26,11 @@ static void compare(int line, const char *asked, unsigned long long answered,
 static uint8_t *lent;
 static uint8_t *packet;
 static uint8_t *buffer;
+static uint64_t *memory;
+static size_t memory_words;
 
-static uint8_t *block(size_t length) {
-  uint8_t *bytes = (uint8_t *)malloc(length == 0 ? 1 : length);
+static void *block(size_t length) {
+  void *bytes = malloc(length == 0 ? 1 : length);
 
   if (bytes == NULL) {
     fprintf(stderr, "calls: no memory\n");
@@ -39,7 +41,7 @@ static uint8_t *block(size_t length) {
 
 static const uint8_t *lend(const char *text, size_t length) {
   free(lent);
-  lent = block(length);
+  lent = (uint8_t *)block(length);
   memcpy(lent, text, length);
   return lent;
 }
@@ -49,6 +51,7 @@ static const uint8_t *lend(const char *text, size_t length) {
 #define BYTES(text) lend(TEXT(text)), sizeof(text) - 1
 #define PACKET packet, (size_t)JAMBPEPPER_PACKET_BYTES
 #define BUFFER buffer, (size_t)JAMBPEPPER_BUFFER_BYTES
+#define MEMORY memory, memory_words
 /* nothing, as C lends it: the machine stops a call that reads or writes there */
 #define NOTHING NULL, (size_t)0
 
@@ -370,11 +373,9 @@ static void streams_that_do_not_fit(void) {
   NO_STREAM("", 1, JAMBPEPPER_POSITION_ABOVE_LENGTH, 0);
 }
 
-static void same_reader(int line, JambpepperReader answered, uint8_t form, uint8_t known,
-                        uint8_t version, uint8_t is_open, uint16_t held, uint16_t wanted) {
+static void same_reader(int line, JambpepperReader answered, uint8_t form, uint8_t is_open,
+                        uint16_t held, uint16_t wanted) {
   compare(line, "reader.form", answered.form, form);
-  compare(line, "reader.known", answered.known, known);
-  compare(line, "reader.version", answered.version, version);
   compare(line, "reader.is_open", answered.is_open, is_open);
   compare(line, "reader.held", answered.held, held);
   compare(line, "reader.wanted", answered.wanted, wanted);
@@ -387,90 +388,240 @@ static void same_place(int line, JambpepperPlace answered, uint8_t holder, uint1
   compare(line, "place.length", answered.length, length);
 }
 
+/* the words of a memory, and one more */
+typedef struct {
+  uint64_t at[JAMBPEPPER_MEMORY_WORDS + 1];
+} Words;
+
+static const Words none = {{0}};
+
+/* these four, and the mark of section number 0 */
+static Words marked(uint64_t table_id, uint64_t id, uint64_t version, uint64_t current) {
+  Words words = {{table_id | id << 8 | current << 24 | version << 25, 1}};
+
+  return words;
+}
+
+/* so many of the words are what the steps are lent as memory from here on */
+static void lend_memory(Words words, size_t count) {
+  free(memory);
+  memory = NULL;
+  memory_words = count;
+  if (count == 0)
+    return;
+  memory = (uint64_t *)block(count * sizeof *memory);
+  memcpy(memory, words.at, count * sizeof *memory);
+}
+
+static void same_memory(int line, Words due) {
+  size_t at;
+
+  for (at = 0; at < memory_words; at++)
+    compare(line, "memory[at]", memory[at], due.at[at]);
+}
+
+static void same_buffer(int line, uint8_t due) {
+  size_t at;
+
+  for (at = 0; at < JAMBPEPPER_BUFFER_BYTES; at++)
+    compare(line, "buffer[at]", buffer[at], due);
+}
+
+/* A fresh state, and the memory that is lent beside it: none but for ONCE. (Not called among the
+ * arguments of a step: they are computed in any order.) */
+static JambpepperReader fresh(uint8_t form) {
+  lend_memory(none, form == JAMBPEPPER_ONCE ? JAMBPEPPER_MEMORY_WORDS : 0);
+  return jambpepper_fresh(form);
+}
+
 static void states(void) {
   JambpepperReader reader;
   uint8_t form;
 
   for (form = JAMBPEPPER_COMPACT; form <= JAMBPEPPER_ONCE; form++) {
-    reader = jambpepper_fresh(form);
-    same_reader(__LINE__, reader, form, 0, 0, 0, 0, 0);
-    SAME(jambpepper_is_sound(reader), 1);
+    reader = fresh(form);
+    same_reader(__LINE__, reader, form, 0, 0, 0);
+    SAME(jambpepper_is_sound(reader, MEMORY), 1);
   }
-  SAME(jambpepper_is_sound(jambpepper_fresh(3)), 0);
-  SAME(jambpepper_is_sound(jambpepper_fresh(255)), 0);
+  same_reader(__LINE__, jambpepper_fresh(3), 3, 0, 0, 0);
+  same_reader(__LINE__, jambpepper_fresh(255), 255, 0, 0, 0);
 
-  reader = jambpepper_fresh(JAMBPEPPER_ONCE);
-  reader.known = 1;
-  reader.version = 31;
+  reader = fresh(JAMBPEPPER_ONCE);
   reader.is_open = 1;
   reader.held = 8;
   reader.wanted = 1024;
-  SAME(jambpepper_is_sound(reader), 1);
+  SAME(jambpepper_is_sound(reader, MEMORY), 1);
+  lend_memory(marked(255, 65535, 31, 1), JAMBPEPPER_MEMORY_WORDS);
+  SAME(jambpepper_is_sound(reader, MEMORY), 1);
   reader.wanted = 1025;
-  SAME(jambpepper_is_sound(reader), 0);
+  SAME(jambpepper_is_sound(reader, MEMORY), 0);
   reader.wanted = 8; /* all held */
-  SAME(jambpepper_is_sound(reader), 0);
+  SAME(jambpepper_is_sound(reader, MEMORY), 0);
   reader.wanted = 9;
-  SAME(jambpepper_is_sound(reader), 1);
+  SAME(jambpepper_is_sound(reader, MEMORY), 1);
   reader.held = 7;
-  SAME(jambpepper_is_sound(reader), 0);
-  reader.held = 8;
-  reader.version = 32;
-  SAME(jambpepper_is_sound(reader), 0);
+  SAME(jambpepper_is_sound(reader, MEMORY), 0);
 }
 
 /* the step gave this answer, the state as it was, and no section */
 static void refused(int line, JambpepperStep step, JambpepperReader reader, uint8_t answer) {
   compare(line, "step.answer", step.answer, answer);
-  same_reader(line, step.reader, reader.form, reader.known, reader.version, reader.is_open,
-              reader.held, reader.wanted);
+  same_reader(line, step.reader, reader.form, reader.is_open, reader.held, reader.wanted);
   same_place(line, step.place, JAMBPEPPER_NOWHERE, 0, 0);
 }
 
-/* both steps answer 25 to this state, and give it back */
-static void unsound(int line, JambpepperReader reader) {
-  compare(line, "is_sound", jambpepper_is_sound(reader), 0);
-  refused(line, jambpepper_tail(reader, PACKET, BUFFER), reader, JAMBPEPPER_STATE_NOT_SOUND);
-  refused(line, jambpepper_head(reader, PACKET, BUFFER), reader, JAMBPEPPER_STATE_NOT_SOUND);
+/* a PAT of transport stream 1 with program 1 on PID 256, version 0 */
+static const uint8_t pat[] = {0x00, 0xb0, 0x0d, 0x00, 0x01, 0xc1, 0x00, 0x00,
+                              0x00, 0x01, 0xe1, 0x00, 0xe8, 0xf9, 0x5e, 0x7d};
+
+/* Both steps answer 25 to this state with so many of these words, and leave all as it was. The
+ * packet is one that a sound state takes: an open one lays five bytes into the buffer in the tail
+ * step, and ONCE remembers the PAT in the head step. */
+static void unsound(int line, JambpepperReader reader, Words words, size_t count) {
+  lend_memory(words, count);
+  memset(buffer, 0xaa, JAMBPEPPER_BUFFER_BYTES);
+  packet_from(TEXT("\x47\x40\x00\x10\x05\x01\x02\x03\x04\x05"));
+  memcpy(packet + 10, pat, sizeof pat);
+  compare(line, "is_sound", jambpepper_is_sound(reader, MEMORY), 0);
+  refused(line, jambpepper_tail(reader, MEMORY, PACKET, BUFFER), reader,
+          JAMBPEPPER_STATE_NOT_SOUND);
+  refused(line, jambpepper_head(reader, MEMORY, PACKET, BUFFER), reader,
+          JAMBPEPPER_STATE_NOT_SOUND);
+  same_memory(line, words);
+  same_buffer(line, 0xaa);
+}
+
+/* 25 stands in its place for this state and the memory that is lent: before 6, behind 5, 4 and 3 */
+static void unsound_in_its_place(int line, JambpepperReader reader) {
+  packet_from(TEXT("\x47\x40\x00\x20\xb7\x00"));
+  refused(line, jambpepper_tail(reader, MEMORY, PACKET, BUFFER), reader,
+          JAMBPEPPER_STATE_NOT_SOUND);
+  refused(line, jambpepper_head(reader, MEMORY, PACKET, BUFFER), reader,
+          JAMBPEPPER_STATE_NOT_SOUND);
+  refused(line, jambpepper_head(reader, MEMORY, PACKET, buffer, 1023), reader,
+          JAMBPEPPER_BUFFER_SIZE);
+  refused(line, jambpepper_tail(reader, MEMORY, PACKET, buffer, 0), reader, JAMBPEPPER_BUFFER_SIZE);
+  packet[0] = 0;
+  refused(line, jambpepper_tail(reader, MEMORY, PACKET, buffer, 0), reader,
+          JAMBPEPPER_NO_SYNC_BYTE);
+  refused(line, jambpepper_tail(reader, MEMORY, packet, 0, buffer, 0), reader,
+          JAMBPEPPER_PACKET_SIZE);
+  refused(line, jambpepper_head(reader, MEMORY, packet, 0, buffer, 0), reader,
+          JAMBPEPPER_PACKET_SIZE);
 }
 
 static void unsound_states(void) {
   JambpepperReader reader;
+  uint8_t form;
 
-  packet_from(TEXT("\x47\x40\x00\x10\x00"));
-  unsound(__LINE__, jambpepper_fresh(3));
-  reader = jambpepper_fresh(JAMBPEPPER_ONCE);
-  reader.known = 2;
-  unsound(__LINE__, reader);
-  reader = jambpepper_fresh(JAMBPEPPER_FULL);
-  reader.is_open = 2;
-  reader.held = 8;
-  reader.wanted = 9;
-  unsound(__LINE__, reader);
-  reader = jambpepper_fresh(JAMBPEPPER_FULL);
-  reader.version = 5;
-  unsound(__LINE__, reader);
+  for (form = JAMBPEPPER_COMPACT; form <= JAMBPEPPER_ONCE; form++) {
+    reader = fresh(form);
+    reader.is_open = 2;
+    reader.held = 8;
+    reader.wanted = 1024;
+    unsound(__LINE__, reader, none, memory_words);
+  }
+  unsound(__LINE__, jambpepper_fresh(3), none, 0);
+  unsound(__LINE__, jambpepper_fresh(3), none, JAMBPEPPER_MEMORY_WORDS);
+  unsound(__LINE__, jambpepper_fresh(255), none, 0);
+  unsound_in_its_place(__LINE__, fresh(3));
+}
 
-  /* the checks before: 3, 4, 5, then 25, then 6 */
-  reader = jambpepper_fresh(3);
-  packet_from(TEXT("\x47\x40\x00\x20\xb7\x00"));
-  SAME(jambpepper_head(reader, PACKET, BUFFER).answer, JAMBPEPPER_STATE_NOT_SOUND);
-  SAME(jambpepper_head(reader, PACKET, buffer, 1023).answer, JAMBPEPPER_BUFFER_SIZE);
-  SAME(jambpepper_tail(reader, PACKET, buffer, 0).answer, JAMBPEPPER_BUFFER_SIZE);
-  packet[0] = 0;
-  SAME(jambpepper_tail(reader, PACKET, buffer, 0).answer, JAMBPEPPER_NO_SYNC_BYTE);
-  SAME(jambpepper_tail(reader, packet, 0, buffer, 0).answer, JAMBPEPPER_PACKET_SIZE);
-  SAME(jambpepper_head(reader, packet, 0, buffer, 0).answer, JAMBPEPPER_PACKET_SIZE);
+/* words of a memory that ONCE would take, but not so many of them */
+static void unsound_counts(void) {
+  static const size_t not_of_once[] = {0, 1, 4, 6};
+  static const size_t not_of_others[] = {1, 4, 5, 6};
+  JambpepperReader once = jambpepper_fresh(JAMBPEPPER_ONCE);
+  JambpepperReader full = jambpepper_fresh(JAMBPEPPER_FULL);
+  JambpepperReader compact = jambpepper_fresh(JAMBPEPPER_COMPACT);
+  size_t at;
+
+  for (at = 0; at < 4; at++) {
+    unsound(__LINE__, once, none, not_of_once[at]);
+    unsound(__LINE__, once, marked(2, 212, 4, 1), not_of_once[at]);
+    unsound_in_its_place(__LINE__, once);
+    unsound(__LINE__, full, none, not_of_others[at]);
+    unsound(__LINE__, full, marked(2, 212, 4, 1), not_of_others[at]);
+    unsound_in_its_place(__LINE__, full);
+    unsound(__LINE__, compact, none, not_of_others[at]);
+    unsound(__LINE__, compact, marked(2, 212, 4, 1), not_of_others[at]);
+  }
+}
+
+/* ONCE is sound with these words, and its steps take them */
+static void sound_memory(int line, Words words) {
+  JambpepperReader reader = jambpepper_fresh(JAMBPEPPER_ONCE);
+
+  lend_memory(words, JAMBPEPPER_MEMORY_WORDS);
+  compare(line, "is_sound", jambpepper_is_sound(reader, MEMORY), 1);
+  packet_from(TEXT("\x47\x00\x00\x10"));
+  compare(line, "tail.answer", jambpepper_tail(reader, MEMORY, PACKET, BUFFER).answer,
+          JAMBPEPPER_NO_SECTION_OPEN);
+  compare(line, "head.answer", jambpepper_head(reader, MEMORY, PACKET, BUFFER).answer,
+          JAMBPEPPER_NOTHING_FOR_THIS_STEP);
+  same_memory(line, words);
+}
+
+static void unsound_memories(void) {
+  JambpepperReader reader = jambpepper_fresh(JAMBPEPPER_ONCE);
+  Words words;
+  int bit;
+  size_t at;
+
+  for (bit = 0; bit < 64; bit++) {
+    words = none; /* no mark, but a bit of the numbers */
+    words.at[JAMBPEPPER_MEMORY_NUMBERS] = (uint64_t)1 << bit;
+    unsound(__LINE__, reader, words, JAMBPEPPER_MEMORY_WORDS);
+
+    words.at[JAMBPEPPER_MEMORY_MARKS] = 1;
+    if (bit < 30)
+      sound_memory(__LINE__, words);
+    else
+      unsound(__LINE__, reader, words, JAMBPEPPER_MEMORY_WORDS);
+
+    words = marked(2, 212, 4, 1);
+    words.at[JAMBPEPPER_MEMORY_NUMBERS] |= (uint64_t)1 << bit;
+    if (bit < 30)
+      sound_memory(__LINE__, words);
+    else
+      unsound(__LINE__, reader, words, JAMBPEPPER_MEMORY_WORDS);
+  }
+  unsound_in_its_place(__LINE__, reader);
+  sound_memory(__LINE__, marked(255, 212, 4, 1));
+  sound_memory(__LINE__, marked(2, 65535, 4, 1));
+  sound_memory(__LINE__, marked(2, 212, 31, 1));
+  sound_memory(__LINE__, marked(255, 65535, 31, 1));
+  unsound(__LINE__, reader, marked(2, 212, 32, 1), JAMBPEPPER_MEMORY_WORDS);
+  unsound(__LINE__, reader, marked(255, 65535, 255, 1), JAMBPEPPER_MEMORY_WORDS);
+  words = marked(0, 0, 0, 0);
+  words.at[JAMBPEPPER_MEMORY_NUMBERS] = 0x3fffffff; /* all 30 bits, then one more */
+  sound_memory(__LINE__, words);
+  words.at[JAMBPEPPER_MEMORY_NUMBERS]++;
+  unsound(__LINE__, reader, words, JAMBPEPPER_MEMORY_WORDS);
+  words.at[JAMBPEPPER_MEMORY_NUMBERS] = UINT64_MAX;
+  unsound(__LINE__, reader, words, JAMBPEPPER_MEMORY_WORDS);
+  for (at = JAMBPEPPER_MEMORY_MARKS; at < JAMBPEPPER_MEMORY_WORDS; at++) {
+    for (bit = 0; bit < 64; bit++) {
+      words = none; /* one mark is enough, wherever it is */
+      words.at[at] = (uint64_t)1 << bit;
+      sound_memory(__LINE__, words);
+    }
+    words.at[JAMBPEPPER_MEMORY_NUMBERS] = (uint64_t)1 << 30;
+    unsound(__LINE__, reader, words, JAMBPEPPER_MEMORY_WORDS);
+  }
 }
 
 /* the head step's answer to these bytes behind unit start and pointer 0, from a fresh state */
 static uint8_t start_of(uint8_t form, const char *text, size_t length) {
+  JambpepperReader reader = fresh(form);
+
   packet_from(TEXT("\x47\x40\x00\x10\x00"));
   memcpy(packet + 5, text, length);
-  return jambpepper_head(jambpepper_fresh(form), PACKET, BUFFER).answer;
+  return jambpepper_head(reader, MEMORY, PACKET, BUFFER).answer;
 }
 
 static void starts(void) {
+  JambpepperReader reader;
   uint8_t form;
 
   SAME(start_of(JAMBPEPPER_FULL, TEXT("\x02\xf3\xfd")), JAMBPEPPER_BYTES_KEPT); /* case 8 */
@@ -485,60 +636,67 @@ static void starts(void) {
     packet_with_length(182);
     packet[1] = 0x40;
     packet[187] = 0;
-    SAME(jambpepper_head(jambpepper_fresh(form), PACKET, BUFFER).answer, JAMBPEPPER_UNDER_3_BYTES);
+    reader = fresh(form);
+    SAME(jambpepper_head(reader, MEMORY, PACKET, BUFFER).answer, JAMBPEPPER_UNDER_3_BYTES);
     packet[187] = 5;
-    SAME(jambpepper_head(jambpepper_fresh(form), PACKET, BUFFER).answer,
-         JAMBPEPPER_POINTER_BEYOND_REST);
+    SAME(jambpepper_head(reader, MEMORY, PACKET, BUFFER).answer, JAMBPEPPER_POINTER_BEYOND_REST);
   }
 }
 
-/* a PAT of transport stream 1 with program 1 on PID 256, version 0 */
-static const uint8_t pat[] = {0x00, 0xb0, 0x0d, 0x00, 0x01, 0xc1, 0x00, 0x00,
-                              0x00, 0x01, 0xe1, 0x00, 0xe8, 0xf9, 0x5e, 0x7d};
-
 static void a_section_in_its_packet(void) {
-  JambpepperReader reader = jambpepper_fresh(JAMBPEPPER_ONCE);
+  JambpepperReader reader = fresh(JAMBPEPPER_ONCE);
   JambpepperStep step;
   JambpepperPlace place;
 
   packet_from(TEXT("\x47\x40\x00\x10\x00"));
   memcpy(packet + 5, pat, sizeof pat);
-  step = jambpepper_tail(reader, PACKET, BUFFER);
+  step = jambpepper_tail(reader, MEMORY, PACKET, BUFFER);
   SAME(step.answer, JAMBPEPPER_NOTHING_FOR_THIS_STEP);
-  same_reader(__LINE__, step.reader, JAMBPEPPER_ONCE, 0, 0, 0, 0, 0);
-  step = jambpepper_head(step.reader, PACKET, BUFFER);
+  same_reader(__LINE__, step.reader, JAMBPEPPER_ONCE, 0, 0, 0);
+  same_memory(__LINE__, none);
+  step = jambpepper_head(step.reader, MEMORY, PACKET, BUFFER);
   SAME(step.answer, JAMBPEPPER_DELIVERED);
-  same_reader(__LINE__, step.reader, JAMBPEPPER_ONCE, 1, 0, 0, 0, 0);
+  same_reader(__LINE__, step.reader, JAMBPEPPER_ONCE, 0, 0, 0);
+  same_memory(__LINE__, marked(0, 1, 0, 1));
   same_place(__LINE__, step.place, JAMBPEPPER_IN_PACKET, 5, sizeof pat);
   place = jambpepper_section(PACKET, BUFFER, step.answer, step.place);
   same_place(__LINE__, place, JAMBPEPPER_IN_PACKET, 5, sizeof pat);
   SAME(jambpepper_section_bytes(place, packet, buffer) == packet + 5, 1);
-  step = jambpepper_head(step.reader, PACKET, BUFFER);
-  SAME(step.answer, JAMBPEPPER_VERSION_REPEATED);
+  step = jambpepper_head(step.reader, MEMORY, PACKET, BUFFER);
+  SAME(step.answer, JAMBPEPPER_ALREADY_DELIVERED);
+  same_memory(__LINE__, marked(0, 1, 0, 1));
 }
 
-/* the same PAT, five bytes of it lacking: the adaptation field leaves room for eleven */
-static void a_section_over_two_packets(void) {
-  JambpepperStep step;
-  JambpepperPlace place;
-
-  memset(buffer, 0xaa, JAMBPEPPER_BUFFER_BYTES);
+/* the packet: the PAT's first eleven bytes, behind an adaptation field that leaves room for them */
+static void packet_with_eleven_bytes(void) {
   packet_with_length(171);
   packet[1] = 0x40;
   packet[176] = 0;
   memcpy(packet + 177, pat, 11);
-  step = jambpepper_head(jambpepper_fresh(JAMBPEPPER_FULL), PACKET, BUFFER);
+}
+
+/* the same PAT, five bytes of it lacking in the first packet */
+static void a_section_over_two_packets(uint8_t form) {
+  JambpepperStep step;
+  JambpepperPlace place;
+
+  memset(buffer, 0xaa, JAMBPEPPER_BUFFER_BYTES);
+  packet_with_eleven_bytes();
+  step.reader = fresh(form);
+  step = jambpepper_head(step.reader, MEMORY, PACKET, BUFFER);
   SAME(step.answer, JAMBPEPPER_BYTES_KEPT);
-  same_reader(__LINE__, step.reader, JAMBPEPPER_FULL, 0, 0, 1, 11, 16);
+  same_reader(__LINE__, step.reader, form, 1, 11, 16);
+  same_memory(__LINE__, none);
   same_place(__LINE__, step.place, JAMBPEPPER_NOWHERE, 0, 0);
   SAME(memcmp(buffer, pat, 11), 0);
   SAME(buffer[11], 0xaa);
 
   packet_from(TEXT("\x47\x00\x00\x11"));
   memcpy(packet + 4, pat + 11, 5);
-  step = jambpepper_tail(step.reader, PACKET, BUFFER);
+  step = jambpepper_tail(step.reader, MEMORY, PACKET, BUFFER);
   SAME(step.answer, JAMBPEPPER_DELIVERED);
-  same_reader(__LINE__, step.reader, JAMBPEPPER_FULL, 0, 0, 0, 0, 0);
+  same_reader(__LINE__, step.reader, form, 0, 0, 0);
+  same_memory(__LINE__, marked(0, 1, 0, 1));
   same_place(__LINE__, step.place, JAMBPEPPER_IN_BUFFER, 0, 16);
   SAME(memcmp(buffer, pat, 16), 0);
   SAME(buffer[16], 0xaa);
@@ -546,8 +704,129 @@ static void a_section_over_two_packets(void) {
   same_place(__LINE__, place, JAMBPEPPER_IN_BUFFER, 0, 16);
   SAME(jambpepper_section_bytes(place, packet, buffer) == buffer, 1);
 
-  step = jambpepper_tail(step.reader, PACKET, BUFFER);
+  step = jambpepper_tail(step.reader, MEMORY, PACKET, BUFFER);
   SAME(step.answer, JAMBPEPPER_NO_SECTION_OPEN);
+  packet_with_eleven_bytes();
+  step = jambpepper_head(step.reader, MEMORY, PACKET, BUFFER);
+  SAME(step.answer, form == JAMBPEPPER_ONCE ? JAMBPEPPER_ALREADY_DELIVERED : JAMBPEPPER_BYTES_KEPT);
+}
+
+/* the packet: a section of twelve bytes, behind pointer 0, with the four numbers of this memory */
+static void packet_with_section(Words four, uint8_t section_number) {
+  const uint64_t numbers = four.at[JAMBPEPPER_MEMORY_NUMBERS];
+  uint8_t *section = packet + 5;
+  uint32_t crc;
+  int at;
+
+  packet_from(TEXT("\x47\x40\x00\x10\x00\x00\xb0\x09"));
+  section[0] = (uint8_t)numbers;
+  section[3] = (uint8_t)(numbers >> 16);
+  section[4] = (uint8_t)(numbers >> 8);
+  section[5] = (uint8_t)(0xc0 | (numbers >> 25 & 31) << 1 | (numbers >> 24 & 1));
+  section[6] = section_number;
+  crc = jambpepper_sum32(section, 8);
+  for (at = 0; at < 4; at++)
+    section[8 + at] = (uint8_t)(crc >> (24 - 8 * at));
+}
+
+/* ONCE, idle, answers this to the packet's head, and remembers this then */
+static void once(int line, uint8_t answer, Words due) {
+  JambpepperStep step = jambpepper_head(jambpepper_fresh(JAMBPEPPER_ONCE), MEMORY, PACKET, BUFFER);
+
+  compare(line, "step.answer", step.answer, answer);
+  same_reader(line, step.reader, JAMBPEPPER_ONCE, 0, 0, 0);
+  same_memory(line, due);
+}
+
+/* the section is delivered, and refused when it comes again */
+static void delivered_once(int line, Words due, uint8_t section_number) {
+  packet_with_section(due, section_number);
+  once(line, JAMBPEPPER_DELIVERED, due);
+  once(line, JAMBPEPPER_ALREADY_DELIVERED, due);
+}
+
+static void sections_of_one_table(void) {
+  static const uint8_t numbers[] = {0, 1, 63, 64, 128, 255};
+  const uint64_t top = (uint64_t)1 << 63;
+  Words due = marked(0xfe, 0x0102, 21, 1);
+  size_t at;
+
+  SAME(due.at[0], 0x2b0102fe);
+  fresh(JAMBPEPPER_ONCE);
+  delivered_once(__LINE__, due, 0);
+  due.at[1] = 3;
+  delivered_once(__LINE__, due, 1);
+  due.at[1] = top + 3;
+  delivered_once(__LINE__, due, 63);
+  due.at[2] = 1;
+  delivered_once(__LINE__, due, 64);
+  due.at[3] = 1;
+  delivered_once(__LINE__, due, 128);
+  due.at[4] = top;
+  delivered_once(__LINE__, due, 255);
+  for (at = 0; at < sizeof numbers; at++) {
+    packet_with_section(due, numbers[at]);
+    once(__LINE__, JAMBPEPPER_ALREADY_DELIVERED, due);
+  }
+}
+
+/* a section that differs in one of the four, if only by a bit, starts the memory anew */
+static void sections_of_two_tables(void) {
+  const Words table = marked(2, 212, 4, 1);
+  Words both = table, other;
+  int bit;
+
+  both.at[JAMBPEPPER_MEMORY_MARKS] = 3;
+  for (bit = 0; bit < 30; bit++) {
+    other = table;
+    other.at[JAMBPEPPER_MEMORY_NUMBERS] ^= (uint64_t)1 << bit;
+    fresh(JAMBPEPPER_ONCE);
+    delivered_once(__LINE__, table, 0);
+    delivered_once(__LINE__, both, 1);
+    delivered_once(__LINE__, other, 0);
+    delivered_once(__LINE__, table, 0);
+  }
+}
+
+/* the night of channel 212: the first copy of version 5 is damaged */
+static void a_damaged_copy(void) {
+  fresh(JAMBPEPPER_ONCE);
+  delivered_once(__LINE__, marked(2, 212, 4, 1), 0);
+  packet_with_section(marked(2, 212, 5, 1), 0);
+  packet[16] ^= 1;
+  once(__LINE__, JAMBPEPPER_CRC_NOT_ZERO, marked(2, 212, 4, 1));
+  once(__LINE__, JAMBPEPPER_CRC_NOT_ZERO, marked(2, 212, 4, 1));
+  delivered_once(__LINE__, marked(2, 212, 5, 1), 0);
+}
+
+static void what_is_forgotten(void) {
+  const Words due = marked(2, 212, 4, 1);
+  JambpepperStep step;
+
+  lend_memory(due, JAMBPEPPER_MEMORY_WORDS);
+  packet_from(TEXT("\x47\x40\x00\x10\x00\x02\x30\x09"));
+  once(__LINE__, JAMBPEPPER_SYNTAX_INDICATOR, due);
+  packet_from(TEXT("\x47\x40\x00\x10\xb0")); /* seven bytes, all ones */
+  once(__LINE__, JAMBPEPPER_UNDER_8_BYTES, due);
+  packet_from(TEXT("\x47\x40\x00\x10\x00\x02\xb3\xfe"));
+  once(__LINE__, JAMBPEPPER_LENGTH_ABOVE_1021, due);
+  packet_from(TEXT("\x47\x40\x00\x10\x00\x02\xb0\x08"));
+  once(__LINE__, JAMBPEPPER_SECTION_UNDER_12, due);
+  packet_from(TEXT("\x47\x00\x00\x10"));
+  once(__LINE__, JAMBPEPPER_NOTHING_FOR_THIS_STEP, due);
+  step = jambpepper_tail(jambpepper_fresh(JAMBPEPPER_ONCE), MEMORY, PACKET, BUFFER);
+  SAME(step.answer, JAMBPEPPER_NO_SECTION_OPEN);
+  same_memory(__LINE__, due);
+
+  packet_from(TEXT("\x47\x40\x00\x10\xb5")); /* two bytes */
+  once(__LINE__, JAMBPEPPER_UNDER_3_BYTES, none);
+  lend_memory(due, JAMBPEPPER_MEMORY_WORDS);
+  packet_from(TEXT("\x47\x40\x00\x10\xb7"));
+  once(__LINE__, JAMBPEPPER_POINTER_BEYOND_REST, none);
+  lend_memory(due, JAMBPEPPER_MEMORY_WORDS);
+  step = jambpepper_tail(jambpepper_fresh(JAMBPEPPER_ONCE), MEMORY, PACKET, BUFFER);
+  SAME(step.answer, JAMBPEPPER_POINTER_BEYOND_REST);
+  same_memory(__LINE__, none);
 }
 
 static void places(void) {
@@ -657,39 +936,39 @@ static void a_body_of_nothing(void) {
   no_entry(__LINE__, SIZE_MAX, JAMBPEPPER_POSITION_ABOVE_LENGTH);
 }
 
-/* both steps, lent no packet, no buffer and neither, with this state: the buffer stays as it is */
-static void lent_nothing(int line, JambpepperReader reader) {
-  size_t at;
-
+/* both steps, lent no packet, no buffer and neither, with this state and the memory that is lent:
+ * buffer and memory stay as they are */
+static void lent_nothing(int line, JambpepperReader reader, Words words) {
   memset(buffer, 0xaa, JAMBPEPPER_BUFFER_BYTES);
-  refused(line, jambpepper_tail(reader, NOTHING, BUFFER), reader, JAMBPEPPER_PACKET_SIZE);
-  refused(line, jambpepper_head(reader, NOTHING, BUFFER), reader, JAMBPEPPER_PACKET_SIZE);
-  refused(line, jambpepper_tail(reader, PACKET, NOTHING), reader, JAMBPEPPER_BUFFER_SIZE);
-  refused(line, jambpepper_head(reader, PACKET, NOTHING), reader, JAMBPEPPER_BUFFER_SIZE);
-  refused(line, jambpepper_tail(reader, NOTHING, NOTHING), reader, JAMBPEPPER_PACKET_SIZE);
-  refused(line, jambpepper_head(reader, NOTHING, NOTHING), reader, JAMBPEPPER_PACKET_SIZE);
-  for (at = 0; at < JAMBPEPPER_BUFFER_BYTES; at++)
-    compare(line, "buffer[at]", buffer[at], 0xaa);
+  refused(line, jambpepper_tail(reader, MEMORY, NOTHING, BUFFER), reader, JAMBPEPPER_PACKET_SIZE);
+  refused(line, jambpepper_head(reader, MEMORY, NOTHING, BUFFER), reader, JAMBPEPPER_PACKET_SIZE);
+  refused(line, jambpepper_tail(reader, MEMORY, PACKET, NOTHING), reader, JAMBPEPPER_BUFFER_SIZE);
+  refused(line, jambpepper_head(reader, MEMORY, PACKET, NOTHING), reader, JAMBPEPPER_BUFFER_SIZE);
+  refused(line, jambpepper_tail(reader, MEMORY, NOTHING, NOTHING), reader, JAMBPEPPER_PACKET_SIZE);
+  refused(line, jambpepper_head(reader, MEMORY, NOTHING, NOTHING), reader, JAMBPEPPER_PACKET_SIZE);
+  same_memory(line, words);
+  same_buffer(line, 0xaa);
 }
 
 static void steps_over_nothing(void) {
+  const Words words = marked(2, 212, 30, 1);
   JambpepperReader reader;
   uint8_t form;
 
   /* five bytes for the tail step, then a section that starts: with a buffer both are kept */
   packet_from(TEXT("\x47\x40\x00\x10\x05\x01\x02\x03\x04\x05\x02\xf3\xfd"));
   for (form = JAMBPEPPER_COMPACT; form <= JAMBPEPPER_ONCE; form++)
-    lent_nothing(__LINE__, jambpepper_fresh(form));
-  lent_nothing(__LINE__, jambpepper_fresh(3));
+    lent_nothing(__LINE__, fresh(form), none);
+  lent_nothing(__LINE__, fresh(3), none);
   reader = jambpepper_fresh(JAMBPEPPER_ONCE);
-  reader.known = 1;
-  reader.version = 30;
   reader.is_open = 1;
   reader.held = 8;
   reader.wanted = 1024;
-  lent_nothing(__LINE__, reader);
-  SAME(jambpepper_tail(reader, PACKET, BUFFER).answer, JAMBPEPPER_BYTES_KEPT);
-  SAME(jambpepper_head(reader, PACKET, BUFFER).answer, JAMBPEPPER_BYTES_KEPT);
+  lend_memory(words, JAMBPEPPER_MEMORY_WORDS);
+  lent_nothing(__LINE__, reader, words);
+  SAME(jambpepper_tail(reader, MEMORY, PACKET, BUFFER).answer, JAMBPEPPER_BYTES_KEPT);
+  SAME(jambpepper_head(reader, MEMORY, PACKET, BUFFER).answer, JAMBPEPPER_BYTES_KEPT);
+  same_memory(__LINE__, words);
 }
 
 static void places_in_nothing(void) {
@@ -715,8 +994,8 @@ static void places_in_nothing(void) {
 }
 
 int main(void) {
-  packet = block(JAMBPEPPER_PACKET_BYTES);
-  buffer = block(JAMBPEPPER_BUFFER_BYTES);
+  packet = (uint8_t *)block(JAMBPEPPER_PACKET_BYTES);
+  buffer = (uint8_t *)block(JAMBPEPPER_BUFFER_BYTES);
   memset(buffer, 0, JAMBPEPPER_BUFFER_BYTES);
   headers();
   counters();
@@ -730,9 +1009,16 @@ int main(void) {
   streams_that_do_not_fit();
   states();
   unsound_states();
+  unsound_counts();
+  unsound_memories();
   starts();
   a_section_in_its_packet();
-  a_section_over_two_packets();
+  a_section_over_two_packets(JAMBPEPPER_FULL);
+  a_section_over_two_packets(JAMBPEPPER_ONCE);
+  sections_of_one_table();
+  sections_of_two_tables();
+  a_damaged_copy();
+  what_is_forgotten();
   places();
   a_packet_of_nothing();
   an_adaptation_field_of_nothing();
@@ -740,6 +1026,7 @@ int main(void) {
   a_body_of_nothing();
   steps_over_nothing();
   places_in_nothing();
+  free(memory);
   free(buffer);
   free(packet);
   free(lent);

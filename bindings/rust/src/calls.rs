@@ -1,6 +1,6 @@
 //! The library's calls with slices for pointers and lengths: all of the crate's unsafe code.
 //!
-//! What a call needs is that each pointer lends as many bytes as its length says, and that nothing else writes the bytes
+//! What a call needs is that each pointer lends as many bytes, or words, as its length says, and that nothing else writes them
 //! meanwhile; with length 0 the pointer is not used. A slice is that: `&[u8]` lends bytes that nobody writes, `&mut [u8]`
 //! bytes that only the call writes and that overlap no other slice.
 use crate::ffi::*;
@@ -85,16 +85,23 @@ pub fn fresh(form: u8) -> JambpepperReader {
     unsafe { jambpepper_fresh(form) }
 }
 
-pub fn is_sound(reader: JambpepperReader) -> u8 {
-    // SAFETY: numbers alone, and any may be handed in.
-    unsafe { jambpepper_is_sound(reader) }
+pub fn is_sound(reader: JambpepperReader, memory: &[u64]) -> u8 {
+    // SAFETY: a slice lends its words; any state may be handed in.
+    unsafe { jambpepper_is_sound(reader, memory.as_ptr(), memory.len()) }
 }
 
-pub fn tail(reader: JambpepperReader, packet: &[u8], buffer: &mut [u8]) -> JambpepperStep {
-    // SAFETY: slices lend their bytes, the buffer's to be written; any state may be handed in.
+pub fn tail(
+    reader: JambpepperReader,
+    memory: &mut [u64],
+    packet: &[u8],
+    buffer: &mut [u8],
+) -> JambpepperStep {
+    // SAFETY: slices lend their words and bytes, the memory's and the buffer's to be written; any state may be handed in.
     unsafe {
         jambpepper_tail(
             reader,
+            memory.as_mut_ptr(),
+            memory.len(),
             packet.as_ptr(),
             packet.len(),
             buffer.as_mut_ptr(),
@@ -103,11 +110,18 @@ pub fn tail(reader: JambpepperReader, packet: &[u8], buffer: &mut [u8]) -> Jambp
     }
 }
 
-pub fn head(reader: JambpepperReader, packet: &[u8], buffer: &mut [u8]) -> JambpepperStep {
-    // SAFETY: slices lend their bytes, the buffer's to be written; any state may be handed in.
+pub fn head(
+    reader: JambpepperReader,
+    memory: &mut [u64],
+    packet: &[u8],
+    buffer: &mut [u8],
+) -> JambpepperStep {
+    // SAFETY: slices lend their words and bytes, the memory's and the buffer's to be written; any state may be handed in.
     unsafe {
         jambpepper_head(
             reader,
+            memory.as_mut_ptr(),
+            memory.len(),
             packet.as_ptr(),
             packet.len(),
             buffer.as_mut_ptr(),

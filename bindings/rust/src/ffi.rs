@@ -1,6 +1,6 @@
 //! include/jambpepper.h, declaration by declaration: the header says what each is.
 //!
-//! The functions are unsafe because a pointer and a length must lend that many bytes; the crate's own functions see to that.
+//! The functions are unsafe because a pointer and a length must lend that many bytes or words; the crate's own functions see to that.
 
 #[repr(C)]
 #[derive(Clone, Copy, Debug, Default, PartialEq, Eq)]
@@ -119,8 +119,6 @@ pub struct JambpepperStream {
 #[derive(Clone, Copy, Debug, Default, PartialEq, Eq)]
 pub struct JambpepperReader {
     pub form: u8,
-    pub known: u8,
-    pub version: u8,
     pub is_open: u8,
     pub held: u16,
     pub wanted: u16,
@@ -198,10 +196,16 @@ extern "C" {
 
     pub fn jambpepper_fresh(form: u8) -> JambpepperReader;
 
-    pub fn jambpepper_is_sound(reader: JambpepperReader) -> u8;
+    pub fn jambpepper_is_sound(
+        reader: JambpepperReader,
+        memory: *const u64,
+        memory_words: usize,
+    ) -> u8;
 
     pub fn jambpepper_tail(
         reader: JambpepperReader,
+        memory: *mut u64,
+        memory_words: usize,
         packet: *const u8,
         packet_length: usize,
         buffer: *mut u8,
@@ -210,6 +214,8 @@ extern "C" {
 
     pub fn jambpepper_head(
         reader: JambpepperReader,
+        memory: *mut u64,
+        memory_words: usize,
         packet: *const u8,
         packet_length: usize,
         buffer: *mut u8,

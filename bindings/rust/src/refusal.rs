@@ -55,7 +55,7 @@ refusals! {
     11 SyntaxIndicator: "syntax indicator not as the form needs it";
     12 Under8Bytes: "under 8 bytes of a section";
     13 LengthAbove1021: "section_length above 1,021";
-    14 VersionRepeated: "version repeated";
+    14 AlreadyDelivered: "already delivered";
     15 NoSectionOpen: "no section open";
     16 SectionUnder12: "whole section under 12 bytes";
     17 CrcNotZero: "CRC not zero";

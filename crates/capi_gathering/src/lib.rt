@@ -6,24 +6,26 @@ ghost use Rattle.mpegts_crc.specs.Crc.{crcOf};
 ghost use Rattle.reader.specs.Tail.{tailOf};
 ghost use Rattle.reader.specs.Head.{headOf};
 ghost use Rattle.capi_numbers.specs.Numbers.{flag};
-ghost use Rattle.capi_gathering.specs.Gathering.{formNumber, formOf, holderNumber, namesForm, namesReader};
-ghost use Rattle.capi_gathering.specs.Gathering.{readerForC, readerFromC, placeForC, stepForC, refusedForC, freshForC, soundForC};
-ghost use Rattle.capi_gathering.specs.Gathering.{outcomeForC, workedForC};
+ghost use Rattle.capi_gathering.specs.Gathering.{formNumber, formOf, holderNumber, namesForm, namesFlag, namesMemory, namesReader};
+ghost use Rattle.capi_gathering.specs.Gathering.{gatheringForC, gatheringFromC, freshForC, soundForC, placeForC};
+ghost use Rattle.capi_gathering.specs.Gathering.{gatheringStepForC, refusedForC, outcomeForC, workedForC};
 use capi_numbers::JambpepperPlace;
 use gathering_rules::checked;
+use memory_words::memory_of;
+use memory_words::remember;
+use memory_words::remembers;
 use mpegts_crc::sum32;
 use reader::Form;
+use reader::Gathering;
+use reader::GatheringStep;
 use reader::Holder;
-use reader::Memory;
 use reader::Place;
 use reader::Reader;
-use reader::Step;
 
+// The state without its memory, which is lent beside it: 48 bytes by value would go through the stack in each call.
 #[repr(C)]
 pub struct JambpepperReader {
     pub form: u8,
-    pub known: u8,
-    pub version: u8,
     pub is_open: u8,
     pub held: u16,
     pub wanted: u16,
@@ -70,47 +72,53 @@ fn holder_number(holder: Holder) -> u8
     }
 }
 
+// Whether the words are those of a memory of the form with this number: five in ONCE, the first no larger than its numbers, else none.
+fn names_memory(form: u8, words: &[u64]) -> bool
+    ensures { λ r. ⌜ r ≡ namesMemory form (now (words .entry)) ⌝ }
+{
+    if form != 2 {
+        return words.len() == 0;
+    }
+    if words.len() == 5 {
+        return words[0] < 8589934592;
+    }
+    false
+}
+
 // Whether each number of the state is one that a state has.
-fn names_reader(reader: JambpepperReader) -> bool
-    ensures { λ r. ⌜ r ≡ namesReader reader ⌝ }
+fn names_reader(reader: JambpepperReader, memory: &[u64]) -> bool
+    ensures { λ r. ⌜ r ≡ namesReader reader (now (memory .entry)) ⌝ }
 {
     if reader.form <= 2 {
-        if reader.known <= 1 {
-            return reader.is_open <= 1;
+        if reader.is_open <= 1 {
+            return names_memory(reader.form, memory);
         }
     }
     false
 }
 
-// The reader that such a state names. (Of a flag that is 0 or 1 the last bit is enough, which costs no comparison.)
-fn reader_from_c(reader: JambpepperReader) -> Reader
-    requires { ⌜ namesReader reader ≡ true ⌝ }
-    ensures { λ r. ⌜ r ≡ readerFromC reader ⌝ }
+// What such a state says, but for its memory. (Of a flag that is 0 or 1 the last bit is enough, which costs no comparison.)
+fn gathering_from_c(reader: JambpepperReader) -> Gathering
+    requires { ⌜ (namesForm (reader .form) ≡ true) × (namesFlag (reader .«is_open») ≡ true) ⌝ }
+    ensures { λ r. ⌜ r ≡ gatheringFromC reader ⌝ }
 {
-    Reader {
+    Gathering {
         form: form_of(reader.form, Form::Compact),
-        memory: Memory {
-            known: reader.known % 2 == 1,
-            version: reader.version,
-        },
         is_open: reader.is_open % 2 == 1,
         held: reader.held,
         wanted: reader.wanted,
     }
 }
 
-fn reader_for_c(reader: Reader) -> JambpepperReader
-    ensures { λ r. ⌜ r ≡ readerForC reader ⌝ }
+fn gathering_for_c(gathering: Gathering) -> JambpepperReader
+    ensures { λ r. ⌜ r ≡ gatheringForC gathering ⌝ }
 {
-    let form = reader.form;
-    let memory = reader.memory;
+    let form = gathering.form;
     JambpepperReader {
         form: form_number(form),
-        known: memory.known as u8,
-        version: memory.version,
-        is_open: reader.is_open as u8,
-        held: reader.held,
-        wanted: reader.wanted,
+        is_open: gathering.is_open as u8,
+        held: gathering.held,
+        wanted: gathering.wanted,
     }
 }
 
@@ -125,13 +133,13 @@ fn place_for_c(place: Place) -> JambpepperPlace
     }
 }
 
-fn step_for_c(step: Step) -> JambpepperStep
-    ensures { λ r. ⌜ r ≡ stepForC step ⌝ }
+fn step_for_c(step: GatheringStep) -> JambpepperStep
+    ensures { λ r. ⌜ r ≡ gatheringStepForC step ⌝ }
 {
-    let reader = step.reader;
+    let gathering = step.gathering;
     let place = step.place;
     JambpepperStep {
-        reader: reader_for_c(reader),
+        reader: gathering_for_c(gathering),
         place: place_for_c(place),
         answer: step.answer,
     }
@@ -157,13 +165,8 @@ fn refused_for_c(reader: JambpepperReader, packet: &[u8], buffer: usize) -> Jamb
 pub extern "C" fn jambpepper_fresh(form: u8) -> JambpepperReader
     ensures { λ r. ⌜ r ≡ freshForC form ⌝ }
 {
-    if form <= 2 {
-        return reader_for_c(Reader::fresh(form_of(form, Form::Compact)));
-    }
     JambpepperReader {
         form,
-        known: 0,
-        version: 0,
         is_open: 0,
         held: 0,
         wanted: 0,
@@ -171,11 +174,18 @@ pub extern "C" fn jambpepper_fresh(form: u8) -> JambpepperReader
 }
 
 #[no_mangle]
-pub extern "C" fn jambpepper_is_sound(reader: JambpepperReader) -> u8
-    ensures { λ r. ⌜ r ≡ flag (soundForC reader) ⌝ }
+pub extern "C" fn jambpepper_is_sound(reader: JambpepperReader, memory: &[u64]) -> u8
+    ensures { λ r. ⌜ r ≡ flag (soundForC reader (now (memory .entry))) ⌝ }
 {
-    if names_reader(reader) {
-        return reader_from_c(reader).is_sound() as u8;
+    if names_reader(reader, memory) {
+        let named = Reader {
+            form: form_of(reader.form, Form::Compact),
+            memory: memory_of(memory),
+            is_open: reader.is_open % 2 == 1,
+            held: reader.held,
+            wanted: reader.wanted,
+        };
+        return named.is_sound() as u8;
     }
     0
 }
@@ -183,14 +193,22 @@ pub extern "C" fn jambpepper_is_sound(reader: JambpepperReader) -> u8
 #[no_mangle]
 pub extern "C" fn jambpepper_tail(
     reader: JambpepperReader,
+    memory: &mut [u64],
     packet: &[u8],
     buffer: &mut [u8],
 ) -> JambpepperStep
-    ensures { λ r. ⌜ outcomeForC r (now (buffer .exit)) ≡ workedForC tailOf reader (now (packet .entry)) (now (buffer .entry)) ⌝ }
+    ensures { λ r. ⌜ outcomeForC r (now (memory .exit)) (now (buffer .exit)) ≡ workedForC tailOf reader (now (memory .entry)) (now (packet .entry)) (now (buffer .entry)) ⌝ }
 {
-    if names_reader(reader) {
-        let step = reader_from_c(reader).tail(packet, buffer);
-        return step_for_c(step);
+    if names_reader(reader, memory) {
+        let step = gathering_from_c(reader).tail_with(memory, packet, buffer);
+        let told = step_for_c(step);
+        if remembers(memory, step.answer) {
+            let gathering = step.gathering;
+            let form = gathering.form;
+            let end = step.place.len as usize;
+            remember(memory, step.answer, form, &buffer[..end]);
+        }
+        return told;
     }
     refused_for_c(reader, packet, buffer.len())
 }
@@ -198,14 +216,23 @@ pub extern "C" fn jambpepper_tail(
 #[no_mangle]
 pub extern "C" fn jambpepper_head(
     reader: JambpepperReader,
+    memory: &mut [u64],
     packet: &[u8],
     buffer: &mut [u8],
 ) -> JambpepperStep
-    ensures { λ r. ⌜ outcomeForC r (now (buffer .exit)) ≡ workedForC headOf reader (now (packet .entry)) (now (buffer .entry)) ⌝ }
+    ensures { λ r. ⌜ outcomeForC r (now (memory .exit)) (now (buffer .exit)) ≡ workedForC headOf reader (now (memory .entry)) (now (packet .entry)) (now (buffer .entry)) ⌝ }
 {
-    if names_reader(reader) {
-        let step = reader_from_c(reader).head(packet, buffer);
-        return step_for_c(step);
+    if names_reader(reader, memory) {
+        let step = gathering_from_c(reader).head_with(memory, packet, buffer);
+        let told = step_for_c(step);
+        if remembers(memory, step.answer) {
+            let gathering = step.gathering;
+            let form = gathering.form;
+            let start = step.place.start as usize;
+            let end = start + step.place.len as usize;
+            remember(memory, step.answer, form, &packet[start..end]);
+        }
+        return told;
     }
     refused_for_c(reader, packet, buffer.len())
 }

@@ -1,7 +1,15 @@
 -- `capi_gathering::jambpepper_head` meets its contract: the step of the reader that is named, or the checks' refusal. Assumes nothing.
-use mathlib.Core.Path.{sym, _∙_}
+use mathlib.Core.Path.{sym, ap, _∙_}
+use Prim.Native.Nat.{ℕ}
+use mathlib.Core.List.{List}
+use native.Mathlib.Omega.{arith}
+use denote.Ref.{now}
+use Rattle.fields.proofs.Choices.{test-fails}
+use Rattle.delivered.proofs.Parts.{part-of}
+use Rattle.memory_words.specs.Words.{wordsAfter}
 use Rattle.reader.specs.Head.{headOf}
-use Rattle.capi_gathering.proofs.States.{worked-as-named, refused-as-unnamed}
+use Rattle.reader.proofs.MemoryByAnswer.{inThePacket, head-by-answer}
+use Rattle.capi_gathering.proofs.States.{named-parts, worked-as-named, head-section-fits, refused-as-unnamed}
 use borrow.Author.Needs.{needs}
 use Rattle.capi_gathering.proofs.jambpepper_head.Statement.{statement}
 use Rattle.capi_gathering.proofs.jambpepper_head.Tie as tie
@@ -9,36 +17,106 @@ use Rattle.capi_gathering.proofs.jambpepper_head.Tie as tie
 names-reader-requires : tie.Need-names-reader-requires
 names-reader-requires c κs = search needs
 
-reader-from-c-requires : tie.Need-reader-from-c-requires
-reader-from-c-requires c κs = sym (c .before .names-reader .ensures) ∙ c .if1 .taken
+gathering-from-c-requires : tie.Need-gathering-from-c-requires
+gathering-from-c-requires c κs =
+    let named = named-parts _ _ (sym (c .before .names-reader .ensures) ∙ c .if1 .taken) in
+    (named .form, named .isOpen)
 
-head-requires : tie.Need-head-requires
-head-requires c κs = search needs
+head-with-requires : tie.Need-head-with-requires
+head-with-requires c κs = search needs
 
 step-for-c-requires : tie.Need-step-for-c-requires
 step-for-c-requires c κs = search needs
 
+remembers-requires : tie.Need-remembers-requires
+remembers-requires c κs = search needs
+
+cast-start : tie.Need-cast-start
+cast-start c = search needs
+
+cast-end : tie.Need-cast-end
+cast-end c = search needs
+
+add-end : tie.Need-add-end
+add-end c = search needs
+
+sub-remember : tie.Need-sub-remember
+sub-remember c = search needs
+
+part-remember-start : tie.Need-part-remember-start
+part-remember-start c = search needs
+
+part-remember-end : tie.Need-part-remember-end
+part-remember-end c =
+    let step = c .before .before .before .before .before .before .before .before .before .before .head-with .result in
+    omega (arith, head-section-fits _ _ _ step _ (c .before .before .before .before .before .before .before .before .before .before .head-with .ensures))
+
+remember-requires : tie.Need-remember-requires
+remember-requires c κs = search needs
+
 same-length : tie.Need-same-length
 same-length c = search needs
 
+same-length-2 : tie.Need-same-length-2
+same-length-2 c = search needs
+
 returns : tie.Need-returns
-returns c = worked-as-named headOf _ _ _ _ (sym (c .before .before .before .before .before .before .before .names-reader .ensures) ∙ c .before .before .before .before .before .before .if1 .taken) _ (c .before .before .before .before .before .reader-from-c .ensures) _ _ (c .before .before .before .head .ensures) (c .step-for-c .ensures)
+returns c =
+    let a = c .before .before .before .before .before .before .before .before .before .before .before .before .before .before .before .before .before .before .before .before .before .before .before .before .args in
+    let step = c .before .before .before .before .before .before .before .before .before .before .before .before .before .before .head-with .result in
+    worked-as-named (a .reader) (now (a .memory)) (now (a .packet)) (now (a .buffer)) _ (c .before .before .before .before .before .before .before .before .before .before .before .before .before .before .before .before .before .gathering-from-c .ensures) step _
+    headOf (c .before .before .before .before .before .before .before .before .before .before .before .before .before .before .head-with .ensures) (sym (c .before .before .before .before .before .before .before .before .before .before .before .before .before .before .before .before .before .before .before .names-reader .ensures) ∙ c .before .before .before .before .before .before .before .before .before .before .before .before .before .before .before .before .before .before .if1 .taken) (inThePacket (now (a .packet))) (head-by-answer _ _ _) _ (c .before .before .before .before .before .before .before .before .before .before .before .step-for-c .ensures)
+    _ (c .before .before .remember .ensures
+    ∙ ap (λ (section : List ℕ). wordsAfter (step .answer) (step .gathering .form) (now (a .memory)) section)
+    (part-of (now (a .packet)) (step .place .start) (step .place .len)))
+
+same-length-3 : tie.Need-same-length-3
+same-length-3 c = search needs
+
+same-length-4 : tie.Need-same-length-4
+same-length-4 c = search needs
+
+returns-2 : tie.Need-returns-2
+unfolding wordsAfter
+returns-2 c =
+    let a = c .before .before .before .before .before .before .before .before .before .before .before .before .before .before .before .before .args in
+    let step = c .before .before .before .before .before .before .head-with .result in
+    worked-as-named (a .reader) (now (a .memory)) (now (a .packet)) (now (a .buffer)) _ (c .before .before .before .before .before .before .before .before .before .gathering-from-c .ensures) step _
+    headOf (c .before .before .before .before .before .before .head-with .ensures) (sym (c .before .before .before .before .before .before .before .before .before .before .before .names-reader .ensures) ∙ c .before .before .before .before .before .before .before .before .before .before .if1 .taken) (inThePacket (now (a .packet))) (head-by-answer _ _ _) _ (c .before .before .before .step-for-c .ensures)
+    _ (sym (test-fails _ _ _ (sym (c .before .remembers .ensures) ∙ c .if2 .left)))
 
 refused-for-c-requires : tie.Need-refused-for-c-requires
 refused-for-c-requires c κs = search needs
 
-returns-2 : tie.Need-returns-2
-returns-2 c = refused-as-unnamed headOf _ _ _ _ (sym (c .before .before .names-reader .ensures) ∙ c .before .if1 .left) (c .refused-for-c .ensures)
+same-length-5 : tie.Need-same-length-5
+same-length-5 c = search needs
+
+returns-3 : tie.Need-returns-3
+returns-3 c =
+    refused-as-unnamed headOf _ _ _ _ _ (sym (c .before .before .names-reader .ensures) ∙ c .before .if1 .left) (c .refused-for-c .ensures)
 
 pub jambpepper-head-spec : {M : Type 1} → statement M
 jambpepper-head-spec =
     tie.close
     (tie.spec
     names-reader-requires
-    reader-from-c-requires
-    head-requires
+    gathering-from-c-requires
+    head-with-requires
     step-for-c-requires
+    remembers-requires
+    cast-start
+    cast-end
+    add-end
+    sub-remember
+    part-remember-start
+    part-remember-end
+    remember-requires
     same-length
+    same-length-2
     returns
+    same-length-3
+    same-length-4
+    returns-2
     refused-for-c-requires
-    returns-2)
+    same-length-5
+    returns-3)

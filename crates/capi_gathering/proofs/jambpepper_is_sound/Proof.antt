@@ -1,11 +1,14 @@
 -- `capi_gathering::jambpepper_is_sound` meets its contract: a state is sound if it names a reader that is. Assumes nothing.
 use mathlib.Core.Path.{sym, ap, _∙_}
+use borrow.Author.Tests.{leb-true}
+use denote.Ref.{now}
 use Rattle.fields.specs.Choice.{if_then_else_}
 use Rattle.fields.proofs.Choices.{test-holds}
 use Rattle.reader.specs.State.{sound}
 use Rattle.capi_numbers.specs.Numbers.{flag}
-use Rattle.capi_gathering.specs.Gathering.{soundForC}
 use Rattle.capi_numbers.proofs.Flags.{byte-is-flag}
+use Rattle.capi_gathering.specs.Gathering.{readerFromC, soundForC}
+use Rattle.capi_gathering.proofs.States.{last-bit, named-parts}
 use borrow.Author.Needs.{needs}
 use Rattle.capi_gathering.proofs.jambpepper_is_sound.Statement.{statement}
 use Rattle.capi_gathering.proofs.jambpepper_is_sound.Tie as tie
@@ -13,8 +16,11 @@ use Rattle.capi_gathering.proofs.jambpepper_is_sound.Tie as tie
 names-reader-requires : tie.Need-names-reader-requires
 names-reader-requires c κs = search needs
 
-reader-from-c-requires : tie.Need-reader-from-c-requires
-reader-from-c-requires c κs = sym (c .before .names-reader .ensures) ∙ c .if1 .taken
+form-of-requires : tie.Need-form-of-requires
+form-of-requires c κs = leb-true _ _ (named-parts _ _ (sym (c .before .names-reader .ensures) ∙ c .if1 .taken) .form)
+
+memory-of-requires : tie.Need-memory-of-requires
+memory-of-requires c κs = search needs
 
 is-sound-requires : tie.Need-is-sound-requires
 is-sound-requires c κs = search needs
@@ -24,7 +30,14 @@ cast-result c = search needs
 
 returns : tie.Need-returns
 unfolding soundForC
-returns c = byte-is-flag _ ∙ ap flag (c .is-sound .ensures ∙ ap sound (c .before .reader-from-c .ensures) ∙ sym (test-holds _ _ _ (sym (c .before .before .before .names-reader .ensures) ∙ c .before .before .if1 .taken)))
+returns c =
+    let a = c .before .before .before .before .before .before .before .args in
+    let named = sym (c .before .before .before .before .before .names-reader .ensures) ∙ c .before .before .before .before .if1 .taken in
+    byte-is-flag _
+    ∙ ap flag
+    (c .is-sound .ensures
+    ∙ simp (c .before .before .before .form-of .ensures, c .before .before .memory-of .ensures, last-bit (a .reader .«is_open») (named-parts _ _ named .isOpen))
+    (sym (test-holds _ _ _ named)))
 
 returns-2 : tie.Need-returns-2
 unfolding soundForC flag if_then_else_
@@ -35,7 +48,8 @@ jambpepper-is-sound-spec =
     tie.close
     (tie.spec
     names-reader-requires
-    reader-from-c-requires
+    form-of-requires
+    memory-of-requires
     is-sound-requires
     cast-result
     returns

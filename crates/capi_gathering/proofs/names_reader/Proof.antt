@@ -2,12 +2,16 @@
 use borrow.Author.Tests.{le-leb, lt-leb}
 use Rattle.fields.specs.Choice.{if_then_else_}
 use Rattle.capi_gathering.specs.Gathering.{namesReader}
+use borrow.Author.Needs.{needs}
 use Rattle.capi_gathering.proofs.names_reader.Statement.{statement}
 use Rattle.capi_gathering.proofs.names_reader.Tie as tie
 
+names-memory-requires : tie.Need-names-memory-requires
+names-memory-requires c κs = search needs
+
 returns : tie.Need-returns
 unfolding namesReader if_then_else_
-returns c = simp (le-leb _ _ (c .before .before .before .if1 .taken), le-leb _ _ (c .before .if2 .taken))
+returns c = simp (le-leb _ _ (c .before .before .before .if1 .taken), le-leb _ _ (c .before .if2 .taken)) (c .names-memory .ensures)
 
 returns-2 : tie.Need-returns-2
 unfolding namesReader if_then_else_
@@ -18,4 +22,4 @@ unfolding namesReader if_then_else_
 returns-3 c = simp (lt-leb _ _ (c .if1 .left))
 
 pub names-reader-spec : {M : Type 1} → statement M
-names-reader-spec = tie.close (tie.spec returns returns-2 returns-3)
+names-reader-spec = tie.close (tie.spec names-memory-requires returns returns-2 returns-3)

@@ -3,14 +3,14 @@ use borrow.Author.Needs.{needs}
 use Rattle.capi_gathering.proofs.step_for_c.Statement.{statement}
 use Rattle.capi_gathering.proofs.step_for_c.Tie as tie
 
-reader-for-c-requires : tie.Need-reader-for-c-requires
-reader-for-c-requires c κs = search needs
+gathering-for-c-requires : tie.Need-gathering-for-c-requires
+gathering-for-c-requires c κs = search needs
 
 place-for-c-requires : tie.Need-place-for-c-requires
 place-for-c-requires c κs = search needs
 
 returns : tie.Need-returns
-returns c = simp (c .place-for-c .ensures, c .before .reader-for-c .ensures)
+returns c = simp (c .before .gathering-for-c .ensures, c .place-for-c .ensures)
 
 pub step-for-c-spec : {M : Type 1} → statement M
-step-for-c-spec = tie.close (tie.spec reader-for-c-requires place-for-c-requires returns)
+step-for-c-spec = tie.close (tie.spec gathering-for-c-requires place-for-c-requires returns)
