@@ -13,6 +13,7 @@ use crate::line;
 use answers::Answer;
 use reader::Form;
 use reader::Holder;
+use reader::Marks;
 use reader::Memory;
 use reader::Place;
 use reader::Reader;
@@ -35,8 +36,24 @@ impl Call {
     const NONE: u64 = 3;
 }
 
-// The largest numbers of a state (form, known, version, is_open, held, wanted), and of an answer and its place (holder, start, length).
-const STATE_LIMITS: [u64; 6] = [2, 1, 255, 1, 65535, 65535];
+// How many numbers a state has: its form, table id, id, version, current, four words of marks, is_open, held, wanted.
+const STATE: usize = 12;
+
+// The largest numbers of a state, and of an answer and its place (holder, start, length).
+const STATE_LIMITS: [u64; STATE] = [
+    2,
+    255,
+    65535,
+    255,
+    1,
+    u64::MAX,
+    u64::MAX,
+    u64::MAX,
+    u64::MAX,
+    1,
+    65535,
+    65535,
+];
 
 const PLACE_LIMITS: [u64; 4] = [255, 2, 65535, 65535];
 
@@ -143,7 +160,7 @@ impl Given {
 
 // The step with the state that stands there.
 fn read_state(line: &[u8], start: usize, step: Step) -> StepRead {
-    let mut numbers = [0u64; 6];
+    let mut numbers = [0u64; STATE];
     let cursor = arguments::read_numbers(line, start, &STATE_LIMITS, &mut numbers);
     StepRead {
         step: with_reader(step, reader_of(&numbers)),
@@ -186,17 +203,26 @@ fn with_answer(step: Step, numbers: &[u64; 4]) -> Step {
     }
 }
 
-fn reader_of(numbers: &[u64; 6]) -> Reader {
-    let memory = Memory {
-        known: numbers[1] != 0,
-        version: byte(numbers[2]),
-    };
+fn reader_of(numbers: &[u64; STATE]) -> Reader {
     Reader {
         form: form_of(numbers[0]),
-        memory,
-        is_open: numbers[3] != 0,
-        held: word(numbers[4]),
-        wanted: word(numbers[5]),
+        memory: memory_of(numbers),
+        is_open: numbers[9] != 0,
+        held: word(numbers[10]),
+        wanted: word(numbers[11]),
+    }
+}
+
+fn memory_of(numbers: &[u64; STATE]) -> Memory {
+    let marks = Marks {
+        words: [numbers[5], numbers[6], numbers[7], numbers[8]],
+    };
+    Memory {
+        table_id: byte(numbers[1]),
+        id: word(numbers[2]),
+        version: byte(numbers[3]),
+        current_next_indicator: numbers[4] != 0,
+        marks,
     }
 }
 
@@ -297,13 +323,20 @@ fn put_state(step: Step, page: &mut [u8; line::PAGE], end: usize) -> usize {
     let reader = step.reader;
     let form = reader.form;
     let memory = reader.memory;
+    let marks = memory.marks;
     let place = step.place;
     let holder = place.holder;
     let numbers = [
         step.answer as u64,
         form_number(form),
-        memory.known as u64,
+        memory.table_id as u64,
+        memory.id as u64,
         memory.version as u64,
+        memory.current_next_indicator as u64,
+        marks.words[0],
+        marks.words[1],
+        marks.words[2],
+        marks.words[3],
         reader.is_open as u64,
         reader.held as u64,
         reader.wanted as u64,

@@ -345,11 +345,18 @@ fn work_more(run: Run, fd: i32, room: &mut [u8], sums: &[u64]) -> Run
     if totals::of(sums, totals::NOT_WRITTEN) != 0 {
         return run.over();
     }
-    let from = run.from;
-    let left = run.end - from;
-    move_down(room, from, left);
-    let got = read_some(fd, &mut room[left..]);
+    let left = run.end - run.from;
+    let got = read_more(fd, room, run.from, left);
     run.with_bytes(left + got.count, got)
+}
+
+// Moves so many bytes to the room's start, and reads more behind them.
+fn read_more(fd: i32, room: &mut [u8], from: usize, left: usize) -> Got
+    requires { ⌜ from + left ≤ length (now room) ⌝ }
+    ensures { λ r. ⌜ left + r .count ≤ length (now (room .exit)) ⌝ }
+{
+    move_down(room, from, left);
+    read_some(fd, &mut room[left..])
 }
 
 fn read_some(fd: i32, rest: &mut [u8]) -> Got

@@ -40,7 +40,7 @@ pub fn put_with_meaning(form: &[u8], numbers: &[u64]) -> u64 {
           syntax indicator not as the form needs it\n\
           under 8 bytes of a section\n\
           section length above 1021\n\
-          version repeated\n\
+          already delivered\n\
           no section open\n\
           whole section under 12 bytes\n\
           CRC remainder not zero\n\

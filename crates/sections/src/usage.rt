@@ -39,7 +39,7 @@ pub fn help() {
           \n\
           --pid N     the PID, 0 to 8191, or 0x0 to 0x1fff; 0, the PAT's, if not given\n\
           --form F    full: sections with table header, the CRC tested (if not given)\n            \
-          once: as full, but a version that repeats is refused\n            \
+          once: as full, but a section that was already delivered is refused\n            \
           compact: sections without table header, no CRC\n\
           --all       print refusals as they come\n\
           --hex       print the bytes of each section\n\
