@@ -118,11 +118,25 @@ pub struct Stream {
 #[derive(Clone, Copy, Debug, Default, PartialEq, Eq)]
 pub struct State {
     pub form: u8,
-    pub known: u8,
-    pub version: u8,
     pub is_open: u8,
     pub held: u16,
     pub wanted: u16,
+}
+
+/// What ONCE remembers, as it is lent beside its state. Word 0 has the table id in bits 0 (the lowest) to 7, the id in bits 8 to 23, the current bit
+/// in bit 24 and the version in bits 25 to 29; bit n % 64 of word 1 + n / 64 is the mark of section number n.
+pub type Memory = [u64; 5];
+
+/// "None is all zero."
+pub const NONE: Memory = [0; 5];
+
+/// How many words are lent beside a state of this form.
+pub fn words(form: u8) -> usize {
+    if form == ONCE {
+        NONE.len()
+    } else {
+        0
+    }
 }
 
 #[derive(Clone, Copy, Debug, Default, PartialEq, Eq)]
@@ -178,8 +192,8 @@ pub trait Calls {
     fn pmt_start(&self, body: &[u8]) -> Pmt;
     fn stream_at(&self, body: &[u8], position: usize) -> Stream;
     fn fresh(&self, form: u8) -> State;
-    fn is_sound(&self, state: State) -> u8;
-    fn tail(&self, state: State, packet: &[u8], buffer: &mut [u8]) -> Step;
-    fn head(&self, state: State, packet: &[u8], buffer: &mut [u8]) -> Step;
+    fn is_sound(&self, state: State, memory: &[u64]) -> u8;
+    fn tail(&self, state: State, memory: &mut [u64], packet: &[u8], buffer: &mut [u8]) -> Step;
+    fn head(&self, state: State, memory: &mut [u64], packet: &[u8], buffer: &mut [u8]) -> Step;
     fn section(&self, packet: &[u8], buffer: &[u8], answer: u8, place: Place) -> Place;
 }

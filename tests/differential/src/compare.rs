@@ -11,7 +11,7 @@ pub const PORT: &str = "port";
 pub const MODEL: &str = "model";
 pub const CRATE: &str = "crate";
 
-/// The sides and what was counted. Where `beside_crate` is false the crate is not asked, where `beside_model` is false the model is not.
+/// The sides and what was counted. Where `beside_crate` is false the crate is not asked, where `beside_model` is false the model is not compared.
 pub struct Comparison<'a> {
     pub port: &'a dyn Calls,
     pub model: &'a dyn Calls,
@@ -368,16 +368,20 @@ impl<'a> Comparison<'a> {
         shown("PMT walk", entry, crate_entry)
     }
 
-    /// The fresh state of any form number, and whether any state is sound.
-    pub fn states(&mut self, form: u8, state: State) -> Outcome {
+    /// The fresh state of any form number, and whether any state is sound with any words beside it.
+    pub fn states(&mut self, form: u8, state: State, memory: &[u64]) -> Outcome {
         self.counts.cases += 1;
-        self.states_differ(form, state)
-            .map_err(|difference| with_input(difference, || format!("form {form}, {state:?}")))
+        self.states_differ(form, state, memory)
+            .map_err(|difference| {
+                with_input(difference, || {
+                    format!("form {form}, {state:?}, memory {memory:?}")
+                })
+            })
     }
 
-    fn states_differ(&mut self, form: u8, state: State) -> Outcome {
+    fn states_differ(&mut self, form: u8, state: State, memory: &[u64]) -> Outcome {
         ask!(self, "fresh state", fresh(form), fresh => 0);
-        ask!(self, "is sound", is_sound(state), yes => yes);
+        ask!(self, "is sound", is_sound(state, memory), yes => yes);
         Ok(())
     }
 

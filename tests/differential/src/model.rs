@@ -1,7 +1,9 @@
-//! The model: document 01 in its words and its order, as request 1 amends it, and the struct of numbers that the C face makes of it. It shares no code with the port or
-//! with the Rust crate, and is written to be read, not to be fast: fields are cut out bit by bit, the CRC is the bit steps.
+//! The model: document 01 in its words and its order, as requests 1 and 2 amend it, and the struct of numbers that the C face makes of it. It
+//! shares no code with the port or with the Rust crate, and is written to be read, not to be fast: fields are cut out bit by bit, the CRC is the
+//! bit steps.
 
 use crate::answers::*;
+use crate::report::HEAD;
 
 pub struct Model;
 
@@ -120,22 +122,65 @@ fn left(body: &[u8], position: usize) -> Result<&[u8], u8> {
     }
 }
 
-fn sound(state: State) -> bool {
-    let flags = state.known <= 1 && state.is_open <= 1;
+fn sound(state: State, memory: &[u64]) -> bool {
     let least = if state.form == COMPACT { 3 } else { 8 };
     let counts = if state.is_open == 0 {
         state.held == 0 && state.wanted == 0
     } else {
         least <= state.held && state.held < state.wanted && state.wanted <= 1024
     };
-    // none is one value: not known, version 0
-    let none = state.known == 0 && state.version == 0;
-    let memory = none || (state.form == ONCE && state.known == 1 && state.version <= 31);
-    state.form <= 2 && flags && counts && memory
+    state.form <= 2 && state.is_open <= 1 && counts && sound_memory(state.form, memory)
+}
+
+/// "Version at most 31, at least one mark; none is all zero." COMPACT and FULL are lent no words.
+fn sound_memory(form: u8, memory: &[u64]) -> bool {
+    if form != ONCE || memory.len() != 5 {
+        return form != ONCE && memory.is_empty();
+    }
+    let none = memory.iter().all(|word| *word == 0);
+    // the version is the topmost: with anything above its bits it is above 31
+    let version = memory[0] >> 25;
+    let marked = memory[1..].iter().any(|word| *word != 0);
+    none || (version <= 31 && marked)
+}
+
+/// What a section of at least eight bytes says of itself, "table id, id, version, current bit", as the memory's first word has it.
+fn four(section: &[u8]) -> u64 {
+    // where each starts in the section, how many bits it has, and where its lowest is in the word
+    let fields = [(0, 8, 0), (24, 16, 8), (42, 5, 25), (47, 1, 24)];
+    let placed = fields.map(|(from, count, to)| bits(section, from, count) << to);
+    placed.iter().sum()
+}
+
+/// The word and the bit that its number is marked by.
+fn mark(section: &[u8]) -> (usize, u64) {
+    let number = usize::from(section[6]);
+    (1 + number / 64, 1 << (number % 64))
+}
+
+/// "All four agree and that number is marked."
+fn already_delivered(memory: &[u64], section: &[u8]) -> bool {
+    let (word, bit) = mark(section);
+    memory[0] == four(section) && memory[word] & bit != 0
+}
+
+/// "A delivered section with the same four adds its mark; one with another four starts the memory anew with its own mark only."
+fn remember(memory: &mut [u64], section: &[u8]) {
+    if memory[0] != four(section) {
+        memory[0] = four(section);
+        memory[1..].fill(0);
+    }
+    let (word, bit) = mark(section);
+    memory[word] |= bit;
 }
 
 /// "Checks before either step, in order: 3, 4, 5, 25, then 6, 7, 8": the payload, or the refusal.
-fn checked<'a>(state: State, packet: &'a [u8], buffer: &[u8]) -> Result<&'a [u8], u8> {
+fn checked<'a>(
+    state: State,
+    memory: &[u64],
+    packet: &'a [u8],
+    buffer: &[u8],
+) -> Result<&'a [u8], u8> {
     let refusal = packet_refusal(packet);
     if refusal != 0 {
         return Err(refusal);
@@ -143,7 +188,7 @@ fn checked<'a>(state: State, packet: &'a [u8], buffer: &[u8]) -> Result<&'a [u8]
     if buffer.len() != 1024 {
         return Err(5);
     }
-    if !sound(state) {
+    if !sound(state, memory) {
         return Err(25);
     }
     payload_start(packet).map(|start| &packet[start..])
@@ -171,14 +216,6 @@ fn idle(state: State) -> State {
     }
 }
 
-fn forgotten(state: State) -> State {
-    State {
-        known: 0,
-        version: 0,
-        ..state
-    }
-}
-
 /// An answer without a place.
 fn plain(answer: u8, state: State) -> Step {
     Step {
@@ -188,14 +225,12 @@ fn plain(answer: u8, state: State) -> Step {
     }
 }
 
-/// The refusals that leave the reader idle; 9 and 10 forget the version, the others do not.
-fn refused(answer: u8, state: State) -> Step {
-    let kept = if answer == 9 || answer == 10 {
-        forgotten(state)
-    } else {
-        state
-    };
-    plain(answer, idle(kept))
+/// The refusals that leave the reader idle. "Answers 9 and 10 still forget all of it."
+fn refused(answer: u8, state: State, memory: &mut [u64]) -> Step {
+    if answer == 9 || answer == 10 {
+        memory.fill(0);
+    }
+    plain(answer, idle(state))
 }
 
 /// The register after one bit of the data.
@@ -217,14 +252,17 @@ pub fn remainder(bytes: &[u8]) -> u32 {
     })
 }
 
-/// "A whole section": 16, 17, or 2 with its place.
-fn whole(state: State, section: &[u8], place: Place) -> Step {
+/// "A whole section": 16, 17, or 2 with its place. "ONCE remembers on delivery only."
+fn whole(state: State, memory: &mut [u64], section: &[u8], place: Place) -> Step {
     let state = idle(state);
     if state.form != COMPACT && section.len() < 12 {
         return plain(16, state);
     }
     if state.form != COMPACT && remainder(section) != 0 {
         return plain(17, state);
+    }
+    if state.form == ONCE {
+        remember(memory, section);
     }
     Step {
         answer: 2,
@@ -234,9 +272,9 @@ fn whole(state: State, section: &[u8], place: Place) -> Step {
 }
 
 /// The bytes continue: 15, 1, or a whole section.
-fn continued(state: State, bytes: &[u8], buffer: &mut [u8]) -> Step {
+fn continued(state: State, memory: &mut [u64], bytes: &[u8], buffer: &mut [u8]) -> Step {
     if state.is_open == 0 {
-        return refused(15, state);
+        return refused(15, state, memory);
     }
     let (held, wanted) = (usize::from(state.held), usize::from(state.wanted));
     let copied = &bytes[..bytes.len().min(wanted - held)];
@@ -250,11 +288,11 @@ fn continued(state: State, bytes: &[u8], buffer: &mut [u8]) -> Step {
         start: 0,
         length: state.wanted,
     };
-    whole(state, &buffer[..wanted], place)
+    whole(state, memory, &buffer[..wanted], place)
 }
 
 /// 10 to 14 for the bytes from the pointer on, or 0.
-fn start_refusal(state: State, bytes: &[u8]) -> u8 {
+fn start_refusal(state: State, memory: &[u64], bytes: &[u8]) -> u8 {
     if bytes.len() < 3 {
         return 10;
     }
@@ -267,28 +305,18 @@ fn start_refusal(state: State, bytes: &[u8]) -> u8 {
     if bits(bytes, 12, 12) > 1021 {
         return 13;
     }
-    if state.form == ONCE && state.known == 1 && bits(bytes, 42, 5) == u64::from(state.version) {
+    if state.form == ONCE && already_delivered(memory, bytes) {
         return 14;
     }
     0
 }
 
 /// A section starts with these bytes, which stand at `at` in the packet.
-fn started(state: State, at: usize, bytes: &[u8], buffer: &mut [u8]) -> Step {
-    let refusal = start_refusal(state, bytes);
+fn started(state: State, memory: &mut [u64], at: usize, bytes: &[u8], buffer: &mut [u8]) -> Step {
+    let refusal = start_refusal(state, memory, bytes);
     if refusal != 0 {
-        return refused(refusal, state);
+        return refused(refusal, state, memory);
     }
-    let state = if state.form == ONCE {
-        let version = bits(bytes, 42, 5) as u8;
-        State {
-            known: 1,
-            version,
-            ..state
-        }
-    } else {
-        state
-    };
     let wanted = 3 + bits(bytes, 12, 12) as usize;
     if wanted <= bytes.len() {
         let place = Place {
@@ -296,7 +324,7 @@ fn started(state: State, at: usize, bytes: &[u8], buffer: &mut [u8]) -> Step {
             start: at as u16,
             length: wanted as u16,
         };
-        return whole(state, &bytes[..wanted], place);
+        return whole(state, memory, &bytes[..wanted], place);
     }
     buffer[..bytes.len()].copy_from_slice(bytes);
     let open = State {
@@ -306,6 +334,41 @@ fn started(state: State, at: usize, bytes: &[u8], buffer: &mut [u8]) -> Step {
         ..state
     };
     plain(1, open)
+}
+
+/// ONCE as document 01 had it before request 2: it remembers the version of the last section that started, 14 is a start with that version, and 9
+/// and 10 forget it. It is followed beside the answers of the rule of today, for as long as it would give the same: up to there the two differ in
+/// nothing but what they remember.
+#[derive(Clone, Copy, Default)]
+pub struct Former {
+    version: Option<u64>,
+}
+
+impl Former {
+    /// Whether it gives this answer too.
+    pub fn answers(&mut self, step: usize, packet: &[u8], answer: u8) -> bool {
+        match answer {
+            9 | 10 => self.version = None,
+            1 | 2 | 14 | 16 | 17 if step == HEAD => {
+                let started = start(packet).map(|bytes| bits(bytes, 42, 5));
+                let repeated = self.version == started;
+                self.version = started;
+                return repeated == (answer == 14);
+            }
+            _ => {}
+        }
+        true
+    }
+}
+
+/// The bytes from the pointer's target on, where the packet has one.
+pub fn start(packet: &[u8]) -> Option<&[u8]> {
+    if packet_refusal(packet) != 0 || !unit_start(packet) {
+        return None;
+    }
+    let payload = &packet[payload_start(packet).ok()?..];
+    let (pointer, rest) = pointer(payload).ok()?;
+    Some(&rest[pointer..])
 }
 
 impl Calls for Model {
@@ -520,27 +583,27 @@ impl Calls for Model {
         }
     }
 
-    fn is_sound(&self, state: State) -> u8 {
-        u8::from(sound(state))
+    fn is_sound(&self, state: State, memory: &[u64]) -> u8 {
+        u8::from(sound(state, memory))
     }
 
-    fn tail(&self, state: State, packet: &[u8], buffer: &mut [u8]) -> Step {
-        let payload = match checked(state, packet, buffer) {
+    fn tail(&self, state: State, memory: &mut [u64], packet: &[u8], buffer: &mut [u8]) -> Step {
+        let payload = match checked(state, memory, packet, buffer) {
             Err(answer) => return plain(answer, state),
             Ok(payload) => payload,
         };
         if !unit_start(packet) {
-            return continued(state, payload, buffer);
+            return continued(state, memory, payload, buffer);
         }
         match pointer(payload) {
-            Err(answer) => refused(answer, state),
+            Err(answer) => refused(answer, state, memory),
             Ok((0, _)) => plain(0, state),
-            Ok((pointer, rest)) => continued(state, &rest[..pointer], buffer),
+            Ok((pointer, rest)) => continued(state, memory, &rest[..pointer], buffer),
         }
     }
 
-    fn head(&self, state: State, packet: &[u8], buffer: &mut [u8]) -> Step {
-        let payload = match checked(state, packet, buffer) {
+    fn head(&self, state: State, memory: &mut [u64], packet: &[u8], buffer: &mut [u8]) -> Step {
+        let payload = match checked(state, memory, packet, buffer) {
             Err(answer) => return plain(answer, state),
             Ok(payload) => payload,
         };
@@ -548,10 +611,10 @@ impl Calls for Model {
             return plain(0, state);
         }
         match pointer(payload) {
-            Err(answer) => refused(answer, state),
+            Err(answer) => refused(answer, state, memory),
             Ok((pointer, rest)) => {
                 let bytes = &rest[pointer..];
-                started(state, 188 - bytes.len(), bytes, buffer)
+                started(state, memory, 188 - bytes.len(), bytes, buffer)
             }
         }
     }

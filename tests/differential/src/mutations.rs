@@ -1,9 +1,12 @@
 //! Does the comparison see? Small slips, each laid over the answers of one side, and each must be noticed by a shortened run.
 
+mod memory;
+
 use crate::answers::*;
 use crate::compare::{Comparison, MODEL, PORT};
-use crate::report::Difference;
+use crate::report::{Difference, HEAD, TAIL};
 use crate::run::{run, Amount};
+use memory::worked;
 
 #[derive(Clone, Copy, Debug, PartialEq, Eq)]
 enum Slip {
@@ -13,13 +16,30 @@ enum Slip {
     LengthOneShort,
     HolderSwapped,
     RepeatedIs15,
-    PointerKeepsVersion,
-    Under3KeepsVersion,
-    SyntaxForgetsVersion,
-    Under8ForgetsVersion,
-    LimitForgetsVersion,
-    WrongCrcForgetsVersion,
-    OpeningForgetsVersion,
+    RepeatedStaysOpen,
+    PointerKeepsMemory,
+    Under3KeepsMemory,
+    SyntaxForgets,
+    Under8Forgets,
+    LimitForgets,
+    RepeatedForgets,
+    Under12Forgets,
+    WrongCrcForgets,
+    OpeningForgets,
+    RememberedAtStart,
+    Under12Marked,
+    WrongCrcMarked,
+    MarksKept,
+    MarkOneMore,
+    Mark64More,
+    LastNumberMarked,
+    TableIdNotLookedAt,
+    IdNotLookedAt,
+    VersionNotLookedAt,
+    CurrentNotLookedAt,
+    MarkNotLookedAt,
+    NoneIsTableZero,
+    KnownTableUnchecked,
     HeldOneMore,
     WantedOneMore,
     ByteBehindSection,
@@ -31,10 +51,19 @@ enum Slip {
     CrcNotTested,
     EmptyPayloadIs8,
     BufferBeforeSyncByte,
-    UnknownVersionTaken,
+    UnmarkedTaken,
+    VersionAboveTaken,
+    HighHalfTaken,
+    SixthWordTaken,
+    IdTurned,
+    MarkWordsTurned,
+    MarkBitsTurned,
+    WordsInFullTaken,
     FormAboveTaken,
     FlagAboveTaken,
     UnsoundMadeFresh,
+    UnsoundForgets,
+    RefusedForgets,
     PayloadBeforeState,
     DeliveredUnchecked,
     // packets
@@ -77,20 +106,37 @@ enum Slip {
 }
 use Slip::*;
 
-/// Every slip, and whether the Rust crate shows enough to notice it without the model.
-const SLIPS: [(Slip, bool); 64] = [
+/// Every slip, and whether the Rust crate shows enough to notice it without comparing the model, which is asked only where ONCE's two rules part.
+const SLIPS: [(Slip, bool); 90] = [
     (TailPlaceOneLate, true),
     (HeadPlaceOneLate, true),
     (LengthOneShort, true),
     (HolderSwapped, true),
     (RepeatedIs15, true),
-    (PointerKeepsVersion, true),
-    (Under3KeepsVersion, true),
-    (SyntaxForgetsVersion, true),
-    (Under8ForgetsVersion, true),
-    (LimitForgetsVersion, true),
-    (WrongCrcForgetsVersion, true),
-    (OpeningForgetsVersion, true),
+    (RepeatedStaysOpen, true),
+    (PointerKeepsMemory, true),
+    (Under3KeepsMemory, true),
+    (SyntaxForgets, true),
+    (Under8Forgets, true),
+    (LimitForgets, true),
+    (RepeatedForgets, true),
+    (Under12Forgets, true),
+    (WrongCrcForgets, true),
+    (OpeningForgets, true),
+    (RememberedAtStart, true),
+    (Under12Marked, true),
+    (WrongCrcMarked, true),
+    (MarksKept, true),
+    (MarkOneMore, true),
+    (Mark64More, true),
+    (LastNumberMarked, true),
+    (TableIdNotLookedAt, true),
+    (IdNotLookedAt, true),
+    (VersionNotLookedAt, true),
+    (CurrentNotLookedAt, true),
+    (MarkNotLookedAt, true),
+    (NoneIsTableZero, true),
+    (KnownTableUnchecked, true),
     (HeldOneMore, true),
     (WantedOneMore, true),
     (ByteBehindSection, false),
@@ -102,10 +148,19 @@ const SLIPS: [(Slip, bool); 64] = [
     (CrcNotTested, true),
     (EmptyPayloadIs8, true),
     (BufferBeforeSyncByte, false),
-    (UnknownVersionTaken, false),
+    (UnmarkedTaken, false),
+    (VersionAboveTaken, false),
+    (HighHalfTaken, false),
+    (SixthWordTaken, false),
+    (IdTurned, false),
+    (MarkWordsTurned, false),
+    (MarkBitsTurned, false),
+    (WordsInFullTaken, false),
     (FormAboveTaken, false),
     (FlagAboveTaken, false),
     (UnsoundMadeFresh, false),
+    (UnsoundForgets, false),
+    (RefusedForgets, true),
     (PayloadBeforeState, false),
     (DeliveredUnchecked, false),
     (ExtensionMasked, true),
@@ -159,46 +214,63 @@ struct Mutated<'a> {
     slip: Slip,
 }
 
-fn with_memory_of(other: State, state: State) -> State {
-    State {
-        known: other.known,
-        version: other.version,
-        ..state
-    }
-}
-
-fn without_memory(state: State) -> State {
-    with_memory_of(State::default(), state)
-}
-
 impl Mutated<'_> {
-    /// What the state is taken for.
-    fn taken(&self, state: State) -> State {
+    /// What state and words are taken for.
+    fn taken(&self, mut state: State, memory: &[u64]) -> (State, Vec<u64>) {
+        let mut memory = memory.to_vec();
+        let whole = memory.len() == NONE.len();
+        let unmarked = whole && memory[1..].iter().all(|word| *word == 0);
         match self.slip {
-            UnknownVersionTaken if state.known == 0 => without_memory(state),
-            FormAboveTaken => State {
-                form: state.form.min(ONCE),
-                ..state
-            },
-            FlagAboveTaken => State {
-                is_open: state.is_open.min(1),
-                ..state
-            },
-            _ => state,
+            UnmarkedTaken if unmarked => memory.fill(0),
+            VersionAboveTaken if whole => memory[0] &= !(1 << 30),
+            HighHalfTaken if whole => memory[0] &= 0xFFFF_FFFF,
+            SixthWordTaken => memory.truncate(NONE.len()),
+            WordsInFullTaken if state.form == FULL => memory.clear(),
+            FormAboveTaken => {
+                state.form = state.form.min(ONCE);
+                memory.resize(words(state.form), 0);
+            }
+            FlagAboveTaken => state.is_open = state.is_open.min(1),
+            _ => self.turn(&mut memory),
         }
+        (state, memory)
+    }
+
+    /// The step of what is taken, and what the words are after it.
+    fn work(
+        &self,
+        step: usize,
+        state: State,
+        memory: &mut [u64],
+        packet: &[u8],
+        buffer: &mut [u8],
+    ) -> Step {
+        let before = memory.to_vec();
+        let (taken, mut words) = self.taken(state, memory);
+        let answered = if step == TAIL {
+            self.side.tail(taken, &mut words, packet, buffer)
+        } else {
+            self.side.head(taken, &mut words, packet, buffer)
+        };
+        self.turn(&mut words);
+        memory
+            .iter_mut()
+            .zip(words)
+            .for_each(|(to, word)| *to = word);
+        let answered = self.step(state, packet, buffer, answered);
+        self.remember(
+            step,
+            answered,
+            &before,
+            memory,
+            worked(step, packet, buffer),
+        )
     }
 
     /// The slips that do not ask which of the two steps it is.
     fn step(&self, before: State, packet: &[u8], buffer: &mut [u8], mut step: Step) -> Step {
         match (self.slip, step.answer) {
             (HolderSwapped, 2) => step.place.holder = 3 - step.place.holder,
-            (PointerKeepsVersion, 9) | (Under3KeepsVersion, 10) => {
-                step.state = with_memory_of(before, step.state);
-            }
-            (SyntaxForgetsVersion, 11)
-            | (Under8ForgetsVersion, 12)
-            | (LimitForgetsVersion, 13)
-            | (WrongCrcForgetsVersion, 17) => step.state = without_memory(step.state),
             (ByteOnWrongCrc, 17) => buffer[0] ^= 1,
             (NoSectionOpenIs0, 15) => step.answer = 0,
             (Under12IsWrongCrc, 16) => step.answer = 17,
@@ -389,13 +461,13 @@ impl Calls for Mutated<'_> {
         self.side.fresh(form)
     }
 
-    fn is_sound(&self, state: State) -> u8 {
-        self.side.is_sound(self.taken(state))
+    fn is_sound(&self, state: State, memory: &[u64]) -> u8 {
+        let (state, memory) = self.taken(state, memory);
+        self.side.is_sound(state, &memory)
     }
 
-    fn tail(&self, state: State, packet: &[u8], buffer: &mut [u8]) -> Step {
-        let step = self.side.tail(self.taken(state), packet, buffer);
-        let mut step = self.step(state, packet, buffer, step);
+    fn tail(&self, state: State, memory: &mut [u64], packet: &[u8], buffer: &mut [u8]) -> Step {
+        let mut step = self.work(TAIL, state, memory, packet, buffer);
         match (self.slip, step.answer) {
             (TailPlaceOneLate, 2) => step.place.start += 1,
             (HeldOneMore, 1) => step.state.held += 1,
@@ -409,17 +481,18 @@ impl Calls for Mutated<'_> {
         step
     }
 
-    fn head(&self, state: State, packet: &[u8], buffer: &mut [u8]) -> Step {
-        let step = self.side.head(self.taken(state), packet, buffer);
-        let mut step = self.step(state, packet, buffer, step);
+    fn head(&self, state: State, memory: &mut [u64], packet: &[u8], buffer: &mut [u8]) -> Step {
+        if let Some(repeated) = self.repeated(state, memory, packet, buffer) {
+            return repeated;
+        }
+        let mut step = self.work(HEAD, state, memory, packet, buffer);
         match (self.slip, step.answer) {
             (HeadPlaceOneLate, 2) => step.place.start += 1,
             (LengthOneShort, 2) => step.place.length -= 1,
             (RepeatedIs15, 14) => step.answer = 15,
+            (RepeatedStaysOpen, 14) | (LimitStaysOpen, 13) => step.state = state,
             (WantedOneMore, 1) => step.state.wanted += 1,
-            (OpeningForgetsVersion, 1) => step.state = with_memory_of(state, step.state),
             (ByteKeptWrong, 1) => buffer[usize::from(step.state.held) - 1] ^= 0x80,
-            (LimitStaysOpen, 13) => step.state = state,
             _ => {}
         }
         step

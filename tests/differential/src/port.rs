@@ -2,14 +2,13 @@
 
 use crate::answers::*;
 use jambpepper::ffi;
+use std::ptr::{null, null_mut};
 
 pub struct Port;
 
 fn reader(state: State) -> ffi::JambpepperReader {
     ffi::JambpepperReader {
         form: state.form,
-        known: state.known,
-        version: state.version,
         is_open: state.is_open,
         held: state.held,
         wanted: state.wanted,
@@ -19,11 +18,17 @@ fn reader(state: State) -> ffi::JambpepperReader {
 fn state(reader: ffi::JambpepperReader) -> State {
     State {
         form: reader.form,
-        known: reader.known,
-        version: reader.version,
         is_open: reader.is_open,
         held: reader.held,
         wanted: reader.wanted,
+    }
+}
+
+/// "Null and 0" where no words are lent.
+fn lent(memory: &mut [u64]) -> *mut u64 {
+    match memory {
+        [] => null_mut(),
+        words => words.as_mut_ptr(),
     }
 }
 
@@ -59,7 +64,7 @@ fn part(part: ffi::JambpepperPart) -> Part {
     }
 }
 
-// In every call below a slice lends its own bytes, and the buffer overlaps no packet.
+// In every call below a slice lends its own bytes or words, and neither memory nor buffer overlaps another.
 impl Calls for Port {
     fn header(&self, packet: &[u8]) -> Header {
         let header = unsafe { ffi::jambpepper_header(packet.as_ptr(), packet.len()) };
@@ -197,14 +202,20 @@ impl Calls for Port {
         state(unsafe { ffi::jambpepper_fresh(form) })
     }
 
-    fn is_sound(&self, state: State) -> u8 {
-        unsafe { ffi::jambpepper_is_sound(reader(state)) }
+    fn is_sound(&self, state: State, memory: &[u64]) -> u8 {
+        let words = match memory {
+            [] => null(),
+            words => words.as_ptr(),
+        };
+        unsafe { ffi::jambpepper_is_sound(reader(state), words, memory.len()) }
     }
 
-    fn tail(&self, state: State, packet: &[u8], buffer: &mut [u8]) -> Step {
+    fn tail(&self, state: State, memory: &mut [u64], packet: &[u8], buffer: &mut [u8]) -> Step {
         step(unsafe {
             ffi::jambpepper_tail(
                 reader(state),
+                lent(memory),
+                memory.len(),
                 packet.as_ptr(),
                 packet.len(),
                 buffer.as_mut_ptr(),
@@ -213,10 +224,12 @@ impl Calls for Port {
         })
     }
 
-    fn head(&self, state: State, packet: &[u8], buffer: &mut [u8]) -> Step {
+    fn head(&self, state: State, memory: &mut [u64], packet: &[u8], buffer: &mut [u8]) -> Step {
         step(unsafe {
             ffi::jambpepper_head(
                 reader(state),
+                lent(memory),
+                memory.len(),
                 packet.as_ptr(),
                 packet.len(),
                 buffer.as_mut_ptr(),

@@ -1,7 +1,7 @@
 //! Random packets, sections, bodies and states, dense around the edges.
 
 use crate::answers::*;
-use crate::inputs::{packet, seal, Wish};
+use crate::inputs::{mark, packet, seal, Label, Wish};
 use crate::random::Random;
 
 /// Sizes near the limits that document 01 names.
@@ -14,8 +14,22 @@ const PAYLOADS: [usize; 22] = [
     1, 2, 3, 4, 5, 6, 8, 9, 10, 11, 12, 13, 14, 17, 20, 24, 181, 182, 183, 184, 184, 184,
 ];
 
+const VERSIONS: [u8; 7] = [0, 0, 1, 1, 2, 17, 31];
+const NUMBERS: [u8; 7] = [0, 0, 1, 1, 63, 64, 255];
+
+/// A label of few, so that it comes again.
+fn random_label(random: &mut Random) -> Label {
+    Label {
+        table_id: random.pick(&[0, 0, 2, 0x42, 255]),
+        id: random.pick(&[0, 0, 1, 256, 65535]),
+        version: random.pick(&VERSIONS),
+        current: !random.one_in(4),
+        number: random.pick(&NUMBERS),
+    }
+}
+
 /// A section to come, its size dense around the limits and around what is left of the packet.
-fn random_section(random: &mut Random, syntax: bool, here: usize) -> Vec<u8> {
+fn random_section(random: &mut Random, syntax: bool, label: Label, here: usize) -> Vec<u8> {
     let size = match random.below(10) {
         0..=3 => random.pick(&SIZES),
         4 | 5 => (here + random.below(5)).saturating_sub(2),
@@ -28,8 +42,7 @@ fn random_section(random: &mut Random, syntax: bool, here: usize) -> Vec<u8> {
     let wish = Wish {
         syntax: syntax != random.one_in(25),
         size: size.clamp(3, 4098),
-        version: random.pick(&[0, 0, 1, 1, 2, 17, 31]),
-        current: !random.one_in(4),
+        label,
         sealed: !random.one_in(10),
     };
     let mut bytes = random.bytes(wish.size);
@@ -37,11 +50,14 @@ fn random_section(random: &mut Random, syntax: bool, here: usize) -> Vec<u8> {
     bytes
 }
 
-/// A stream in the making: what is left of the section that was started.
+/// A stream in the making: what is left of the section that was started, and the labels of two tables.
 struct Muxer<'a> {
     random: &'a mut Random,
     syntax: bool,
     left: Vec<u8>,
+    labels: [Label; 2],
+    /// one table of one section, whose version changes
+    single: bool,
 }
 
 impl Muxer<'_> {
@@ -51,6 +67,23 @@ impl Muxer<'_> {
             1 => self.random.between(1, 184),
             _ => 184,
         }
+    }
+
+    /// The label of the next section: mostly that of the last one, or with one thing changed, or the other table's.
+    fn label(&mut self) -> Label {
+        let any = random_label(self.random);
+        let [label, other] = &mut self.labels;
+        match self.random.below(12) {
+            0 => label.version = any.version,
+            _ if self.single => {}
+            1 | 2 => label.number = any.number,
+            3 => label.current = !label.current,
+            4 => label.table_id = any.table_id,
+            5 => label.id = any.id,
+            6 | 7 => std::mem::swap(label, other),
+            _ => {}
+        }
+        self.labels[0]
     }
 
     fn continuation(&mut self, size: usize) -> Vec<u8> {
@@ -78,7 +111,8 @@ impl Muxer<'_> {
         payload.extend(tail.take(pointer));
         self.left.clear();
         let here = rest.saturating_sub(pointer);
-        let section = random_section(self.random, self.syntax, here);
+        let label = self.label();
+        let section = random_section(self.random, self.syntax, label, here);
         let (now, later) = section.split_at(here.min(section.len()));
         payload.extend_from_slice(now);
         self.left.extend_from_slice(later);
@@ -111,10 +145,14 @@ impl Muxer<'_> {
 pub fn stream(random: &mut Random) -> Vec<Vec<u8>> {
     let length = random.between(4, 40);
     let syntax = random.one_in(2);
+    let labels = [random_label(random), random_label(random)];
+    let single = random.one_in(2);
     let mut muxer = Muxer {
         random,
         syntax,
         left: Vec::new(),
+        labels,
+        single,
     };
     let mut packets: Vec<_> = (0..length).map(|_| muxer.next()).collect();
     if random.one_in(2) {
@@ -207,8 +245,13 @@ pub fn any_section(random: &mut Random) -> Vec<u8> {
         let wish = Wish {
             syntax: true,
             size,
-            version: random.byte() & 31,
-            current: random.one_in(2),
+            label: Label {
+                table_id: random.byte(),
+                id: random.number() as u16,
+                version: random.byte() & 31,
+                current: random.one_in(2),
+                number: random.byte(),
+            },
             sealed: true,
         };
         seal(&mut bytes, wish);
@@ -316,21 +359,15 @@ pub fn state(random: &mut Random) -> State {
         state.wanted = wanted as u16;
         state.held = random.between(least, wanted - 1) as u16;
     }
-    if form == ONCE && random.one_in(2) {
-        state.known = 1;
-        state.version = random.pick(&[0, 1, 2, 30, 31]);
-    }
-    match random.below(22) {
+    match random.below(20) {
         0 => state.form = random.pick(&[3, 4, 127, 255]),
-        1 => state.known = random.pick(&[1, 2, 3, 255]),
-        2 => state.version = random.pick(&[1, 31, 32, 33, 255]),
-        3 => state.is_open = random.pick(&[0, 1, 2, 3, 255]),
-        4 => state.held = random.pick(&[0, 1, 2, 3, 7, 8, 1023, 1024, 65535]),
-        5 => state.wanted = random.pick(&[0, 1, 3, 4, 8, 9, 1024, 1025, 65535]),
-        6 => state.held = state.wanted,
-        7 => state.held = state.held.wrapping_sub(1),
-        8 => state.form = random.below(3) as u8,
-        9 => {
+        1 => state.is_open = random.pick(&[0, 1, 2, 3, 255]),
+        2 => state.held = random.pick(&[0, 1, 2, 3, 7, 8, 1023, 1024, 65535]),
+        3 => state.wanted = random.pick(&[0, 1, 3, 4, 8, 9, 1024, 1025, 65535]),
+        4 => state.held = state.wanted,
+        5 => state.held = state.held.wrapping_sub(1),
+        6 => state.form = random.below(3) as u8,
+        7 => {
             state.is_open = random.byte() & 1;
             state.held = random.number() as u16;
             state.wanted = random.number() as u16;
@@ -338,6 +375,33 @@ pub fn state(random: &mut Random) -> State {
         _ => {}
     }
     state
+}
+
+/// The words beside a state: mostly none, or those of a few sections of one table; some wrong in one word, or in their count.
+pub fn memory(random: &mut Random, form: u8) -> Vec<u64> {
+    let mut memory = NONE;
+    if random.one_in(2) {
+        memory = random_label(random).memory();
+        for _ in 0..random.below(3) {
+            mark(&mut memory, random.pick(&NUMBERS));
+        }
+    }
+    match random.below(16) {
+        0 => memory[0] = random.pick(&[0, 0xFF, 0xFFFF << 8, 1 << 24, 31 << 25, 32 << 25]),
+        1 => memory[0] = random.pick(&[(1 << 30) - 1, 1 << 30, 1 << 33, 1 << 63, u64::MAX]),
+        2 => memory[0] ^= 1 << random.below(30),
+        3 => memory[0] |= 1 << random.between(30, 63),
+        4 => memory[1..].fill(0),
+        5 => memory[1..].fill(u64::MAX),
+        _ => {}
+    }
+    let count = match random.below(16) {
+        0 => random.pick(&[0, 1, 4, 5, 6, 8]),
+        _ => words(form),
+    };
+    let mut memory = memory.to_vec();
+    memory.resize(count, 0);
+    memory
 }
 
 /// A place, mostly near the ends of packet and buffer.

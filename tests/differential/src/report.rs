@@ -114,6 +114,12 @@ pub struct Counts {
     crate_steps: [[[u64; ANSWERS]; 2]; 3],
     calls: [[u64; ANSWERS]; CALLS.len()],
     dropped: [[u64; 3]; 3],
+    /// ONCE's steps beside the crate's FULL that are the same
+    as_full: u64,
+    /// FULL's answers where ONCE's head gave 14 and its tail 15
+    silenced: [[u64; ANSWERS]; 2],
+    /// ONCE's steps behind the one where the rules part, in which the crate's ONCE is not compared
+    pub behind: u64,
     /// packets worked by a reader, one count for each form
     pub packets: u64,
     /// inputs of the calls that only read
@@ -122,13 +128,15 @@ pub struct Counts {
 }
 
 /// Where the sides differ and are meant to; docs/DIFFERENCES.md has the reasons.
-pub const INTENDED: [&str; 6] = [
+pub const INTENDED: [&str; 8] = [
     "a packet that is not 188 bytes long: the crate panics, 3",
     "a packet without 0x47: the crate panics or gives none, 4",
     "a counter above 15: the crate panics, no",
     "a section header of under 3 bytes: the crate panics, 10",
     "a table header of a section of under 8 bytes: the crate panics, 12",
     "a clock's extension of 300 to 511: the standard has none, the crate and the port give it",
+    "ONCE, a section of the version that started last, not delivered: the crate's 14, the port takes it",
+    "ONCE, a section already delivered, not of the version that started last: the crate takes it, 14",
 ];
 pub const SIZE: usize = 0;
 pub const SYNC: usize = 1;
@@ -136,6 +144,8 @@ pub const COUNTER: usize = 2;
 pub const SHORT_SECTION: usize = 3;
 pub const SHORT_TABLE: usize = 4;
 pub const EXTENSION: usize = 5;
+pub const NOT_DELIVERED: usize = 6;
+pub const ALREADY_DELIVERED: usize = 7;
 
 impl Default for Counts {
     fn default() -> Counts {
@@ -144,6 +154,9 @@ impl Default for Counts {
             crate_steps: [[[0; ANSWERS]; 2]; 3],
             calls: [[0; ANSWERS]; CALLS.len()],
             dropped: [[0; 3]; 3],
+            as_full: 0,
+            silenced: [[0; ANSWERS]; 2],
+            behind: 0,
             packets: 0,
             cases: 0,
             intended: [0; INTENDED.len()],
@@ -165,6 +178,15 @@ impl Counts {
     /// The crate's 15, by the layer that gave it.
     pub fn drop_by(&mut self, form: u8, layer: usize) {
         self.dropped[usize::from(form)][layer] += 1;
+    }
+
+    /// A step of ONCE beside the crate's FULL, and whether it was a 14 or 15 in the place of that answer.
+    pub fn beside_full(&mut self, step: usize, full: u8, silent: bool) {
+        if silent {
+            self.silenced[step][usize::from(full)] += 1;
+        } else {
+            self.as_full += 1;
+        }
     }
 
     pub fn call(&mut self, call: usize, answer: u8) {
@@ -198,6 +220,7 @@ impl Counts {
             }
         }
         if with_crate {
+            text.push_str(&self.print_once());
             text.push_str("the crate's 15, by form and by the layer that dropped the bytes:\n");
             for ((_, name), [buffer, processor, dedup]) in FORMS.iter().zip(self.dropped) {
                 let silent = format!("{processor} processor in silence, {dedup} dedup in silence");
@@ -218,6 +241,38 @@ impl Counts {
         text
     }
 
+    fn print_once(&self) -> String {
+        let steps = self.crate_steps[usize::from(ONCE)].iter().flatten();
+        let compared: u64 = steps.sum();
+        let mut text = format!(
+            "ONCE beside the crate's FULL: {} steps as FULL\n",
+            self.as_full
+        );
+        for (answer, step) in [(14, HEAD), (15, TAIL)] {
+            let (word, full) = (STEPS[step], reached(&self.silenced[step]));
+            let _ = writeln!(text, "  {word} {answer} where FULL answers:{full}");
+        }
+        let behind = self.behind;
+        let _ = writeln!(
+            text,
+            "ONCE beside the crate's ONCE: {compared} steps; {behind} behind the one where the rules part"
+        );
+        text
+    }
+
+    /// Where FULL works on a section and ONCE does not.
+    fn never_silenced(&self) -> Vec<String> {
+        let mut missing = Vec::new();
+        for (step, word) in STEPS.iter().enumerate() {
+            let answers = [1usize, 2, 16, 17].into_iter();
+            let never = answers.filter(|answer| self.silenced[step][*answer] == 0);
+            missing.extend(
+                never.map(|answer| format!("ONCE {word} silent where FULL answers {answer}")),
+            );
+        }
+        missing
+    }
+
     /// What could have been reached and was not.
     pub fn missing(&self, with_crate: bool) -> Vec<String> {
         let mut missing = never(&self.steps, |_| true, "");
@@ -227,6 +282,7 @@ impl Counts {
                 shown_by_the_crate,
                 " by the crate",
             ));
+            missing.extend(self.never_silenced());
             // only ONCE has a dedup layer
             let dropped = [
                 (COMPACT, 0),

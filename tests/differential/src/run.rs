@@ -28,6 +28,8 @@ pub fn run(comparison: &mut Comparison<'_>, amount: Amount, say: &dyn Fn(&str)) 
     panics(comparison)?;
     say("sizes and first bytes");
     sizes(comparison)?;
+    say("memories that are not sound");
+    memories(comparison)?;
     if amount.whole {
         say("all header bytes");
         headers(comparison)?;
@@ -39,12 +41,14 @@ pub fn run(comparison: &mut Comparison<'_>, amount: Amount, say: &dyn Fn(&str)) 
         pointers(comparison)?;
         say("all section lengths, worked");
         section_lengths(comparison)?;
-        say("all pairs of versions, worked");
-        versions(comparison)?;
+        say("ONCE: all pairs of versions and of numbers, all ids, worked");
+        labels(comparison)?;
     }
+    say("sequences of copies");
+    sequences(comparison, ONCE, &inputs::copies(), amount.depth)?;
     say("sequences of awkward packets");
     for (form, _) in FORMS {
-        awkward_sequences(comparison, form, amount.depth)?;
+        sequences(comparison, form, &inputs::awkward(form), amount.depth)?;
     }
     say("random fields, sections, walks and states");
     cases(comparison, amount)?;
@@ -54,13 +58,17 @@ pub fn run(comparison: &mut Comparison<'_>, amount: Amount, say: &dyn Fn(&str)) 
     counters(comparison)
 }
 
-/// All sequences of the awkward packets up to a length. The port's and the model's positions are kept; the crate's is reached by feeding it the
-/// beginning again.
-fn awkward_sequences(comparison: &mut Comparison<'_>, form: u8, depth: usize) -> Outcome {
-    let packets = inputs::awkward(form);
+/// All sequences of the packets up to a length. The port's and the model's positions are kept; the crate's is reached by feeding it the beginning
+/// again.
+fn sequences(
+    comparison: &mut Comparison<'_>,
+    form: u8,
+    packets: &[Vec<u8>],
+    depth: usize,
+) -> Outcome {
     let mut reading = Reading::fresh(comparison, form);
     let mut chosen = Vec::new();
-    longer_sequences(comparison, &packets, &mut reading, &mut chosen, depth)
+    longer_sequences(comparison, packets, &mut reading, &mut chosen, depth)
 }
 
 fn longer_sequences(
@@ -71,15 +79,9 @@ fn longer_sequences(
     depth: usize,
 ) -> Outcome {
     let from = reading.position.clone();
+    let fed: Vec<&[u8]> = chosen.iter().map(|index| &packets[*index][..]).collect();
     for index in 0..packets.len() {
-        reading.position.clone_from(&from);
-        if comparison.beside_crate {
-            reading.crate_reader.renew(reading.form);
-            for earlier in chosen.iter() {
-                // its answers were compared where the shorter sequence was
-                let _ = reading.crate_reader.consume(&packets[*earlier]);
-            }
-        }
+        reading.back_at(comparison, &from, &fed);
         chosen.push(index);
         if let Err(difference) = reading.work(comparison, &packets[index]) {
             let sequence = chosen.iter().map(|index| packets[*index].clone());
@@ -104,8 +106,7 @@ fn pointers(comparison: &mut Comparison<'_>) -> Outcome {
         let wish = inputs::Wish {
             syntax: form != COMPACT,
             size: 40,
-            version: 1,
-            current: true,
+            label: inputs::FIRST,
             sealed: true,
         };
         let section = inputs::section(wish, 0);
@@ -154,8 +155,10 @@ fn section_lengths(comparison: &mut Comparison<'_>) -> Outcome {
             let wish = inputs::Wish {
                 syntax: form != COMPACT,
                 size: 3 + length,
-                version: (length % 32) as u8,
-                current: true,
+                label: inputs::Label {
+                    version: (length % 32) as u8,
+                    ..inputs::FIRST
+                },
                 sealed: length % 8 != 7,
             };
             let section = inputs::section(wish, length as u8);
@@ -175,36 +178,62 @@ fn section_lengths(comparison: &mut Comparison<'_>) -> Outcome {
     Ok(())
 }
 
-/// ONCE: every remembered version beside every version that comes, and again after each kind of refusal.
-fn versions(comparison: &mut Comparison<'_>) -> Outcome {
-    let whole = |version, current| {
-        let wish = inputs::Wish {
-            syntax: true,
-            size: 16,
-            version,
-            current,
-            sealed: true,
-        };
-        inputs::packet(true, &[&[0][..], &inputs::section(wish, version)].concat())
-    };
-    let refusals = inputs::awkward(ONCE);
+/// ONCE: every remembered version and number beside every one that comes, each version again after each kind of refusal, and every table id and id
+/// beside one other.
+fn labels(comparison: &mut Comparison<'_>) -> Outcome {
+    let label = inputs::FIRST;
+    let between = inputs::awkward(ONCE);
     for first in 0..32 {
-        for second in 0..32 {
+        let first = inputs::Label {
+            version: first,
+            ..label
+        };
+        for version in 0..32 {
             for current in [false, true] {
-                let packets = [
-                    whole(first, true),
-                    whole(second, current),
-                    whole(first, current),
-                ];
-                sequence(comparison, ONCE, &packets)?;
+                let second = inputs::Label {
+                    version,
+                    current,
+                    ..label
+                };
+                repeated(comparison, first, second)?;
             }
         }
-        for between in &refusals {
-            let packets = [whole(first, true), between.clone(), whole(first, true)];
-            sequence(comparison, ONCE, &packets)?;
+        for packet in &between {
+            let whole = inputs::whole(first);
+            sequence(comparison, ONCE, &[&whole, packet, &whole])?;
         }
     }
+    for first in 0..=255 {
+        let first = inputs::Label {
+            number: first,
+            ..label
+        };
+        for number in 0..=255 {
+            repeated(comparison, first, inputs::Label { number, ..label })?;
+        }
+        repeated(
+            comparison,
+            label,
+            inputs::Label {
+                table_id: first.number,
+                ..label
+            },
+        )?;
+    }
+    for id in 0..=65535 {
+        repeated(comparison, label, inputs::Label { id, ..label })?;
+    }
     Ok(())
+}
+
+/// Both, and both again.
+fn repeated(
+    comparison: &mut Comparison<'_>,
+    first: inputs::Label,
+    second: inputs::Label,
+) -> Outcome {
+    let (first, second) = (inputs::whole(first), inputs::whole(second));
+    sequence(comparison, ONCE, &[&first, &second, &first, &second])
 }
 
 fn headers(comparison: &mut Comparison<'_>) -> Outcome {
@@ -293,20 +322,74 @@ fn sizes(comparison: &mut Comparison<'_>) -> Outcome {
         comparison.fields(other)?;
         for (form, _) in FORMS {
             let state = comparison.model.fresh(form);
-            comparison.steps_from(state, other, &buffer[..1024])?;
-            comparison.steps_from(state, other, &buffer[..1023])?;
+            let memory = &NONE[..words(form)];
+            comparison.steps_from(state, memory, other, &buffer[..1024])?;
+            comparison.steps_from(state, memory, other, &buffer[..1023])?;
         }
     }
     for form in 0..=255 {
         let state = comparison.model.fresh(form);
-        comparison.states(form, state)?;
+        let memory = &NONE[..words(form)];
+        comparison.states(form, state, memory)?;
         for size in [0, 1, 1023, 1024, 1025, 1030] {
-            comparison.steps_from(state, &packet, &buffer[..size])?;
+            comparison.steps_from(state, memory, &packet, &buffer[..size])?;
         }
         for (control, length) in [(0, 0), (2, 183), (3, 183), (3, 184)] {
             let without = inputs::controlled(true, control, length);
-            comparison.steps_from(state, &without, &buffer[..1024])?;
+            comparison.steps_from(state, memory, &without, &buffer[..1024])?;
         }
+    }
+    Ok(())
+}
+
+/// Every count of words up to 16 for every form. Each word with one bit alone, with one bit changed, with all below a bit and with all from it on; and
+/// each version of eight bits beside the other numbers: each number at its limit, and above.
+fn memories(comparison: &mut Comparison<'_>) -> Outcome {
+    let once = inputs::FIRST.memory();
+    for (form, _) in FORMS {
+        for count in 0..=16 {
+            any_words(comparison, form, &vec![0; count])?;
+            let many: Vec<u64> = once.iter().copied().cycle().take(count).collect();
+            any_words(comparison, form, &many)?;
+        }
+    }
+    for memory in [NONE, once, inputs::MOST.memory()] {
+        for word in 0..NONE.len() {
+            for bit in 0..64 {
+                let one: u64 = 1 << bit;
+                for number in [one, memory[word] ^ one, one - 1, !(one - 1)] {
+                    let mut memory = memory;
+                    memory[word] = number;
+                    any_words(comparison, ONCE, &memory)?;
+                }
+            }
+        }
+        for version in 0..=255 {
+            let mut memory = memory;
+            memory[0] = memory[0] & 0x1FF_FFFF | version << 25;
+            any_words(comparison, ONCE, &memory)?;
+        }
+    }
+    Ok(())
+}
+
+/// A reader of the form with these words, and packets that deliver, repeat, forget and have no payload.
+fn any_words(comparison: &mut Comparison<'_>, form: u8, memory: &[u64]) -> Outcome {
+    let state = comparison.model.fresh(form);
+    comparison.states(form, state, memory)?;
+    let label = inputs::FIRST;
+    let packets = [
+        inputs::whole(label),
+        inputs::whole(inputs::Label {
+            number: 65,
+            ..label
+        }),
+        inputs::whole(inputs::MOST),
+        inputs::packet(true, &[5]),
+        inputs::controlled(true, 0, 0),
+    ];
+    for packet in &packets {
+        comparison.steps_from(state, memory, packet, &[0x11; BUFFER_BYTES])?;
     }
     Ok(())
 }
@@ -374,10 +457,11 @@ fn cases(comparison: &mut Comparison<'_>, amount: Amount) -> Outcome {
     Ok(())
 }
 
-/// A state, a step from it with a packet and a buffer that may have any size, and a place.
+/// A state, a step from it with words, a packet and a buffer that may have any size, and a place.
 fn any_state(comparison: &mut Comparison<'_>, random: &mut Random) -> Outcome {
     let state = random_inputs::state(random);
-    comparison.states(state.form, state)?;
+    let memory = random_inputs::memory(random, state.form);
+    comparison.states(state.form, state, &memory)?;
     let packets = random_inputs::stream(random);
     let packet = &packets[random.below(packets.len())];
     let size = if random.one_in(10) {
@@ -386,7 +470,7 @@ fn any_state(comparison: &mut Comparison<'_>, random: &mut Random) -> Outcome {
         BUFFER_BYTES
     };
     let buffer = random.bytes(size);
-    comparison.steps_from(state, packet, &buffer)?;
+    comparison.steps_from(state, &memory, packet, &buffer)?;
     let place = random_inputs::place(random);
     let answer = random.pick(&[2, 2, 2, 0, 1, 16, 17, 255]);
     comparison.delivered(packet, &buffer, answer, place)

@@ -4,7 +4,9 @@
 
 use crate::answers::*;
 use crate::compare::is_packet;
+use crate::gathering::Kept;
 use crate::inputs::{self, Wish};
+use crate::model::{Former, Model};
 use crate::random::Random;
 use crate::random_inputs;
 use crate::report::*;
@@ -28,6 +30,9 @@ pub struct Sample {
     counts: Counts,
     reader: CrateReader,
     form: u8,
+    /// the reader that `replay` has, and document 01's rule of 14 beside it
+    kept: Kept,
+    former: Former,
 }
 
 /// The Adler-32 of RFC 1950.
@@ -95,9 +100,24 @@ impl Sample {
         self.line("0");
         self.reader.renew(form);
         self.form = form;
+        self.kept = Kept::fresh(&Model, form);
+        self.former = Former::default();
     }
 
+    /// Whether the crate's reader, which remembers by document 01's rule, answers as `replay` does.
+    fn is_alike(&mut self, packet: &[u8]) -> bool {
+        [TAIL, HEAD].into_iter().all(|step| {
+            let answer = self.kept.step(&Model, step, packet).answer;
+            self.form != ONCE || self.former.answers(step, packet, answer)
+        })
+    }
+
+    /// Where the rules part on it, it is the first packet of another reader, which remembers nothing by either.
     fn packet(&mut self, packet: &[u8]) {
+        if !self.is_alike(packet) {
+            self.fresh(self.form);
+            assert!(self.is_alike(packet));
+        }
         self.request(&format!("feed {}", hexadecimal(packet)));
         let [tail, head] = self.reader.work(packet).expect("an answer of the crate");
         self.counts.crate_step(self.form, TAIL, tail.answer);
@@ -219,21 +239,38 @@ impl Sample {
         self.counts.call(call_index("PMT walk"), walk.end);
     }
 
-    /// Awkward packets in a random order, the longest section and one that is too long, and random streams.
+    /// A section twice, and a good copy behind a damaged one.
+    fn copies(&mut self, form: u8) {
+        let good = inputs::whole(inputs::FIRST);
+        let mut damaged = good.clone();
+        damaged[PACKET_BYTES - 1] ^= 1;
+        for first in [&good, &damaged] {
+            self.fresh(form);
+            self.packet(first);
+            self.packet(&good);
+        }
+    }
+
+    /// Awkward packets in a random order, copies, the longest section and one that is too long, and random streams.
     fn gathering(&mut self, random: &mut Random, form: u8) {
         self.fresh(form);
-        let awkward = inputs::awkward(form);
+        let mut awkward = inputs::awkward(form);
+        if form != COMPACT {
+            awkward.extend(inputs::copies());
+        }
         for _ in 0..PACKETS / 3 {
             let packet = &awkward[random.below(awkward.len())];
             self.packet(packet);
+        }
+        if form != COMPACT {
+            self.copies(form);
         }
         for size in [1024, 1025] {
             self.fresh(form);
             let wish = Wish {
                 syntax: form != COMPACT,
                 size,
-                version: 5,
-                current: true,
+                label: inputs::FIRST,
                 sealed: true,
             };
             let section = inputs::section(wish, 1);
@@ -310,6 +347,8 @@ pub fn make() -> Result<Sample, Vec<String>> {
         counts: Counts::default(),
         reader: CrateReader::new(COMPACT),
         form: COMPACT,
+        kept: Kept::fresh(&Model, COMPACT),
+        former: Former::default(),
     };
     let mut random = Random::new(SEED);
     for (form, _) in FORMS {
