@@ -12,29 +12,42 @@ const ONCE: u8 = 2;
 const DELIVERED: u8 = 2;
 const IN_BUFFER: u8 = 2;
 const BUFFER: usize = 1024;
+const MEMORY: usize = 5;
 
 struct Gathering {
     state: JambpepperReader,
+    memory: [u64; MEMORY],
     buffer: [u8; BUFFER],
 }
 
-type Step =
-    unsafe extern "C" fn(JambpepperReader, *const u8, usize, *mut u8, usize) -> JambpepperStep;
+type Step = unsafe extern "C" fn(
+    JambpepperReader,
+    *mut u64,
+    usize,
+    *const u8,
+    usize,
+    *mut u8,
+    usize,
+) -> JambpepperStep;
 
 impl Gathering {
     fn new(form: u8) -> Self {
         Gathering {
             state: unsafe { jambpepper_fresh(form) },
+            memory: [0; MEMORY],
             buffer: [0; BUFFER],
         }
     }
 
+    /// A step of a reader of this form: ONCE alone is lent its memory.
     #[inline(always)]
-    fn work(&mut self, step: Step, packet: &[u8], delivered: &mut Delivered) {
+    fn work(&mut self, form: u8, step: Step, packet: &[u8], delivered: &mut Delivered) {
         let buffer = &mut self.buffer;
         let after = unsafe {
             step(
                 self.state,
+                self.memory.as_mut_ptr(),
+                if form == ONCE { MEMORY } else { 0 },
                 packet.as_ptr(),
                 packet.len(),
                 buffer.as_mut_ptr(),
@@ -68,8 +81,8 @@ fn read(form: u8, input: &Input) -> Delivered {
     let mut delivered = Delivered::default();
     for (packet, reader) in input.packets() {
         let gathering = &mut readers[reader];
-        gathering.work(jambpepper_tail, packet, &mut delivered);
-        gathering.work(jambpepper_head, packet, &mut delivered);
+        gathering.work(form, jambpepper_tail, packet, &mut delivered);
+        gathering.work(form, jambpepper_head, packet, &mut delivered);
     }
     delivered
 }

@@ -31,8 +31,13 @@ static LONG: [Reader; 6] = [
     reader("port FULL", Sections::FirstOfPacket, port::full, None),
     reader("libdvbpsi", Sections::All, others::dvbpsi, None),
     reader("biTStream", Sections::All, others::bitstream, None),
-    reader("crate ONCE", Sections::Once, original::once, None),
-    reader("port ONCE", Sections::Once, port::once, Some(4)),
+    reader(
+        "crate ONCE",
+        Sections::EachVersionOnce,
+        original::once,
+        None,
+    ),
+    reader("port ONCE", Sections::EachSectionOnce, port::once, Some(4)),
 ];
 
 /// Sections without it, and so without a CRC.

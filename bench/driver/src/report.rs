@@ -50,7 +50,7 @@ impl Row<'_> {
     }
 }
 
-/// What the port is to reach beside the crate's reader of the same form.
+/// What the port is to reach beside the crate's reader of the same form, where their work is the same.
 fn goal(input: &Input, reader: &Reader) -> Option<f64> {
     match (reader.name, input.name) {
         ("port FULL", "multiplex") => Some(0.8),
@@ -69,15 +69,17 @@ fn goal_remark(goal: Option<f64>, ratio: f64) -> String {
     }
 }
 
-/// Says so where a reader does not deliver the sections that the other does.
-fn work_remark(input: &Input, reader: &Reader, other: &Reader) -> &'static str {
+/// What a reader does that does not deliver the sections that the other does.
+fn other_work(input: &Input, reader: &Reader, other: &Reader) -> Option<&'static str> {
     if input.expected(reader.sections) == input.expected(other.sections) {
-        ""
-    } else if reader.sections == Sections::Once {
-        "other work: each version once"
-    } else {
-        "other work: all sections of a packet"
+        return None;
     }
+    Some(match reader.sections {
+        Sections::All => "other work: all sections of a packet",
+        Sections::FirstOfPacket => "other work: the first section of a packet",
+        Sections::EachVersionOnce => "other work: each version once",
+        Sections::EachSectionOnce => "other work: each section once",
+    })
 }
 
 /// The rows of an input: nanoseconds a packet, each reader over the first, and those with another to compare with over that one.
@@ -89,7 +91,10 @@ pub fn times(input: &Input, readers: &[Reader], measured: &[Measured], passes: u
             let ratio = measured[number].ratio_to(&measured[other]);
             let is_goal = reader.beside.unwrap_or(0) == other;
             let goal = goal(input, reader).filter(|_| is_goal);
-            let work = work_remark(input, reader, &readers[other]);
+            let remark = match other_work(input, reader, &readers[other]) {
+                Some(work) => work.into(),
+                None => goal_remark(goal, ratio.median),
+            };
             Row {
                 input: input.name,
                 megabytes: input.bytes.len() as f64 / 1e6,
@@ -97,8 +102,8 @@ pub fn times(input: &Input, readers: &[Reader], measured: &[Measured], passes: u
                 delivered: input.expected(reader.sections),
                 nanoseconds: measured[number].median_seconds() * 1e9 / packets,
                 over: readers[other].name,
-                remark: format!("{work}{}", goal_remark(goal, ratio.median)),
                 ratio,
+                remark,
             }
             .print();
         }
