@@ -1,12 +1,12 @@
 -- A state that C gives, with the memory that it lends: its parts, and a step on it, by whether it names a reader. Assumes nothing.
 use Prim.Native.Nat.{ℕ, _+_, _%_, _≤_}
-use mathlib.Core.Path.{_≡_, refl, sym, ap, ap₂, _∙_, subst}
+use mathlib.Core.Path.{_≡_, sym, ap, ap₂, _∙_, subst}
 use mathlib.Core.Bool.{true, false}
 use mathlib.Core.List.{List, [], _∷_}
 use native.Mathlib.Nat.{mod-eq-of-lt}
 use native.Mathlib.Omega.{arith}
 use borrow.Author.Tests.{eqb-true, leb-true, ltb-true}
-use lib.ListN.{length, take, drop}
+use lib.ListN.{length}
 use Rattle.fields.specs.Choice.{_is_}
 use Rattle.fields.proofs.Choices.{test-holds, test-fails, either-way, and-holds}
 use Rattle.memory.specs.declared.Memory.{Memory}
@@ -23,7 +23,7 @@ use Rattle.reader.specs.Tail.{tailOf}
 use Rattle.reader.specs.Head.{headOf}
 use Rattle.reader.proofs.MemoryByAnswer.{ByAnswer, tail-fits, head-fits}
 use Rattle.capi_gathering.specs.Gathering.{namesForm, namesFlag, namesMemory, namesReader, gatheringFromC, readerFromC}
-use Rattle.capi_gathering.specs.Gathering.{outcomeForC, OutcomeForC, gatheringStepForC, toldToC, refusedForC, workedForC}
+use Rattle.capi_gathering.specs.Gathering.{outcomeForC, OutcomeForC, gatheringStepForC, refusedForC, workedForC}
 use Rattle.capi_gathering.specs.declared.JambpepperReader.{JambpepperReader}
 use Rattle.capi_gathering.specs.declared.JambpepperStep.{JambpepperStep}
 

@@ -8,17 +8,16 @@ use lib.ListN.{length, take, drop}
 use borrow.Author.Tests.{eqb-true, eqb-false, eq-eqb}
 use Rattle.fields.specs.Choice.{if_then_else_, _is_}
 use Rattle.fields.proofs.Choices.{test-holds, test-fails, of-both, of-either, either-way, by-test, and-holds}
-use Rattle.answers.specs.Numbers.{delivered}
 use Rattle.packet.specs.Payload.{payloadOf}
-use Rattle.marks.specs.Marks.{fourWords, marked}
+use Rattle.marks.specs.Marks.{fourWords}
 use Rattle.marks.proofs.Marking.{none-marked}
 use Rattle.labels.specs.Label.{labelOf}
 use Rattle.labels.specs.declared.Label.{Label}
 use Rattle.memory.specs.declared.Form.{Form}
 use Rattle.memory.specs.declared.Memory.{Memory}
-use Rattle.memory.specs.Memory.{noMemory, soundMemory, sameFlag, agrees, onDelivery, afterAnswer}
+use Rattle.memory.specs.Memory.{sameFlag, agrees, onDelivery, afterAnswer}
 use Rattle.memory.proofs.Remembering.{four-words, marked-on-delivery, memory-stays}
-use Rattle.gathering_rules.specs.Checks.{bufferLength, checked}
+use Rattle.gathering_rules.specs.Checks.{bufferLength}
 use Rattle.gathering_rules.proofs.Answering.{checked-is-one-of, start-refusal-is-one-of}
 use Rattle.delivered.specs.declared.Place.{Place}
 use Rattle.delivered.specs.Delivered.{sectionOf}
@@ -34,7 +33,7 @@ use Rattle.reader.specs.Head.{begun, started, headFrom, headOf}
 use Rattle.reader.specs.Run.{Left, worked, after, headAfter}
 use Rattle.reader.proofs.Checking.{goes-on}
 use Rattle.reader.proofs.Soundness.{memory-sound}
-use Rattle.reader.proofs.Keeping.{Keeps, fresh-sound, tail-keeps, head-keeps}
+use Rattle.reader.proofs.Keeping.{fresh-sound, tail-keeps, head-keeps}
 use Rattle.reader.proofs.MemoryByAnswer.{tail-by-answer, head-by-answer, tail-fits, head-fits}
 use Rattle.instep.specs.Seen.{Seen, seen, seenOver, seenFromHead, tailBehind}
 use Rattle.instep.specs.Remembered.{NoneForgets, NoneRemembers, DeliveredSince, labelIn, WereDelivered}

@@ -1,5 +1,4 @@
 -- `capi_gathering::gathering_from_c` meets its contract: number by number. Assumes nothing.
-use borrow.Author.Tests.{leb-true}
 use Rattle.capi_gathering.proofs.States.{last-bit}
 use borrow.Author.Needs.{needs}
 use Rattle.capi_gathering.proofs.gathering_from_c.Statement.{statement}

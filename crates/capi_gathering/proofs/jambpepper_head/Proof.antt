@@ -65,7 +65,8 @@ returns c =
     let a = c .before .before .before .before .before .before .before .before .before .before .before .before .before .before .before .before .before .before .before .before .before .before .before .before .args in
     let step = c .before .before .before .before .before .before .before .before .before .before .before .before .before .before .head-with .result in
     worked-as-named (a .reader) (now (a .memory)) (now (a .packet)) (now (a .buffer)) _ (c .before .before .before .before .before .before .before .before .before .before .before .before .before .before .before .before .before .gathering-from-c .ensures) step _
-    headOf (c .before .before .before .before .before .before .before .before .before .before .before .before .before .before .head-with .ensures) (sym (c .before .before .before .before .before .before .before .before .before .before .before .before .before .before .before .before .before .before .before .names-reader .ensures) ∙ c .before .before .before .before .before .before .before .before .before .before .before .before .before .before .before .before .before .before .if1 .taken) (inThePacket (now (a .packet))) (head-by-answer _ _ _) _ (c .before .before .before .before .before .before .before .before .before .before .before .step-for-c .ensures)
+    headOf (c .before .before .before .before .before .before .before .before .before .before .before .before .before .before .head-with .ensures) (sym (c .before .before .before .before .before .before .before .before .before .before .before .before .before .before .before .before .before .before .before .names-reader .ensures)
+    ∙ c .before .before .before .before .before .before .before .before .before .before .before .before .before .before .before .before .before .before .if1 .taken) (inThePacket (now (a .packet))) (head-by-answer _ _ _) _ (c .before .before .before .before .before .before .before .before .before .before .before .step-for-c .ensures)
     _ (c .before .before .remember .ensures
     ∙ ap (λ (section : List ℕ). wordsAfter (step .answer) (step .gathering .form) (now (a .memory)) section)
     (part-of (now (a .packet)) (step .place .start) (step .place .len)))
@@ -82,7 +83,8 @@ returns-2 c =
     let a = c .before .before .before .before .before .before .before .before .before .before .before .before .before .before .before .before .args in
     let step = c .before .before .before .before .before .before .head-with .result in
     worked-as-named (a .reader) (now (a .memory)) (now (a .packet)) (now (a .buffer)) _ (c .before .before .before .before .before .before .before .before .before .gathering-from-c .ensures) step _
-    headOf (c .before .before .before .before .before .before .head-with .ensures) (sym (c .before .before .before .before .before .before .before .before .before .before .before .names-reader .ensures) ∙ c .before .before .before .before .before .before .before .before .before .before .if1 .taken) (inThePacket (now (a .packet))) (head-by-answer _ _ _) _ (c .before .before .before .step-for-c .ensures)
+    headOf (c .before .before .before .before .before .before .head-with .ensures) (sym (c .before .before .before .before .before .before .before .before .before .before .before .names-reader .ensures)
+    ∙ c .before .before .before .before .before .before .before .before .before .before .if1 .taken) (inThePacket (now (a .packet))) (head-by-answer _ _ _) _ (c .before .before .before .step-for-c .ensures)
     _ (sym (test-fails _ _ _ (sym (c .before .remembers .ensures) ∙ c .if2 .left)))
 
 refused-for-c-requires : tie.Need-refused-for-c-requires

@@ -1,13 +1,11 @@
 -- `capi_gathering::jambpepper_is_sound` meets its contract: a state is sound if it names a reader that is. Assumes nothing.
 use mathlib.Core.Path.{sym, ap, _∙_}
 use borrow.Author.Tests.{leb-true}
-use denote.Ref.{now}
 use Rattle.fields.specs.Choice.{if_then_else_}
 use Rattle.fields.proofs.Choices.{test-holds}
-use Rattle.reader.specs.State.{sound}
 use Rattle.capi_numbers.specs.Numbers.{flag}
 use Rattle.capi_numbers.proofs.Flags.{byte-is-flag}
-use Rattle.capi_gathering.specs.Gathering.{readerFromC, soundForC}
+use Rattle.capi_gathering.specs.Gathering.{soundForC}
 use Rattle.capi_gathering.proofs.States.{last-bit, named-parts}
 use borrow.Author.Needs.{needs}
 use Rattle.capi_gathering.proofs.jambpepper_is_sound.Statement.{statement}

@@ -56,7 +56,8 @@ returns c =
     let a = c .before .before .before .before .before .before .before .before .before .before .before .before .before .before .before .before .before .before .before .before .before .before .before .args in
     let step = c .before .before .before .before .before .before .before .before .before .before .before .before .before .tail-with .result in
     worked-as-named (a .reader) (now (a .memory)) (now (a .packet)) (now (a .buffer)) _ (c .before .before .before .before .before .before .before .before .before .before .before .before .before .before .before .before .gathering-from-c .ensures) step _
-    tailOf (c .before .before .before .before .before .before .before .before .before .before .before .before .before .tail-with .ensures) (sym (c .before .before .before .before .before .before .before .before .before .before .before .before .before .before .before .before .before .before .names-reader .ensures) ∙ c .before .before .before .before .before .before .before .before .before .before .before .before .before .before .before .before .before .if1 .taken) inTheBuffer (tail-by-answer _ _ _) _ (c .before .before .before .before .before .before .before .before .before .before .step-for-c .ensures)
+    tailOf (c .before .before .before .before .before .before .before .before .before .before .before .before .before .tail-with .ensures) (sym (c .before .before .before .before .before .before .before .before .before .before .before .before .before .before .before .before .before .before .names-reader .ensures)
+    ∙ c .before .before .before .before .before .before .before .before .before .before .before .before .before .before .before .before .before .if1 .taken) inTheBuffer (tail-by-answer _ _ _) _ (c .before .before .before .before .before .before .before .before .before .before .step-for-c .ensures)
     _ (c .before .before .remember .ensures)
 
 same-length-3 : tie.Need-same-length-3
@@ -71,7 +72,8 @@ returns-2 c =
     let a = c .before .before .before .before .before .before .before .before .before .before .before .before .before .before .before .before .args in
     let step = c .before .before .before .before .before .before .tail-with .result in
     worked-as-named (a .reader) (now (a .memory)) (now (a .packet)) (now (a .buffer)) _ (c .before .before .before .before .before .before .before .before .before .gathering-from-c .ensures) step _
-    tailOf (c .before .before .before .before .before .before .tail-with .ensures) (sym (c .before .before .before .before .before .before .before .before .before .before .before .names-reader .ensures) ∙ c .before .before .before .before .before .before .before .before .before .before .if1 .taken) inTheBuffer (tail-by-answer _ _ _) _ (c .before .before .before .step-for-c .ensures)
+    tailOf (c .before .before .before .before .before .before .tail-with .ensures) (sym (c .before .before .before .before .before .before .before .before .before .before .before .names-reader .ensures)
+    ∙ c .before .before .before .before .before .before .before .before .before .before .if1 .taken) inTheBuffer (tail-by-answer _ _ _) _ (c .before .before .before .step-for-c .ensures)
     _ (sym (test-fails _ _ _ (sym (c .before .remembers .ensures) ∙ c .if2 .left)))
 
 refused-for-c-requires : tie.Need-refused-for-c-requires

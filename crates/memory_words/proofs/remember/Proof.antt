@@ -30,8 +30,10 @@ returns c =
     let a = c .before .before .before .before .before .before .before .before .before .before .before .before .args in
     c .before .before .write .ensures
     ∙ ap (λ (memory : Memory). written memory (now (a .words)))
-    (c .before .before .before .before .after .ensures ∙ ap (λ (memory : Memory). afterAnswer (a .answer) (a .form) memory (now (a .section))) (c .before .before .before .before .before .memory-of .ensures))
-    ∙ sym (test-holds _ _ _ (sym (c .before .before .before .before .before .before .before .before .remembers .ensures) ∙ c .before .before .before .before .before .before .before .if1 .taken))
+    (c .before .before .before .before .after .ensures
+    ∙ ap (λ (memory : Memory). afterAnswer (a .answer) (a .form) memory (now (a .section))) (c .before .before .before .before .before .memory-of .ensures))
+    ∙ sym (test-holds _ _ _ (sym (c .before .before .before .before .before .before .before .before .remembers .ensures)
+    ∙ c .before .before .before .before .before .before .before .if1 .taken))
 
 same-length-2 : tie.Need-same-length-2
 same-length-2 c = search needs

@@ -17,11 +17,15 @@ returns-2 c = sym (test-fails _ _ _ (ap not (eq-eqb _ _ (c .before .if1 .left)))
 
 returns-3 : tie.Need-returns-3
 unfolding remembers
-returns-3 c = sym (test-fails _ _ _ (ap not (eq-eqb _ _ (c .before .before .if1 .left))) ∙ test-fails _ _ _ (ne-eqb _ _ (c .before .if2 .left)) ∙ test-holds _ _ _ (eq-eqb _ _ (c .if3 .taken)))
+returns-3 c =
+    sym (test-fails _ _ _ (ap not (eq-eqb _ _ (c .before .before .if1 .left))) ∙ test-fails _ _ _ (ne-eqb _ _ (c .before .if2 .left))
+    ∙ test-holds _ _ _ (eq-eqb _ _ (c .if3 .taken)))
 
 returns-4 : tie.Need-returns-4
 unfolding remembers
-returns-4 c = sym (test-fails _ _ _ (ap not (eq-eqb _ _ (c .before .before .if1 .left))) ∙ test-fails _ _ _ (ne-eqb _ _ (c .before .if2 .left)) ∙ test-fails _ _ _ (ne-eqb _ _ (c .if3 .left)))
+returns-4 c =
+    sym (test-fails _ _ _ (ap not (eq-eqb _ _ (c .before .before .if1 .left))) ∙ test-fails _ _ _ (ne-eqb _ _ (c .before .if2 .left))
+    ∙ test-fails _ _ _ (ne-eqb _ _ (c .if3 .left)))
 
 pub remembers-spec : {M : Type 1} → statement M
 remembers-spec = tie.close (tie.spec returns returns-2 returns-3 returns-4)

@@ -20,7 +20,12 @@ element-copy-out-result c = search needs
 
 returns : tie.Need-returns
 unfolding anyMarked if_then_else_
-returns c = simp (eq-eqb _ _ (c .before .before .before .before .before .if1 .taken), eq-eqb _ _ (c .before .before .before .if2 .taken), eq-eqb _ _ (c .before .if3 .taken))
+returns c =
+    simp (
+      eq-eqb _ _ (c .before .before .before .before .before .if1 .taken),
+      eq-eqb _ _ (c .before .before .before .if2 .taken),
+      eq-eqb _ _ (c .before .if3 .taken),
+    )
 
 returns-2 : tie.Need-returns-2
 unfolding anyMarked if_then_else_

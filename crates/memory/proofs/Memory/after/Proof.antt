@@ -5,8 +5,6 @@ use Rattle.memory.specs.Memory.{afterAnswer}
 use borrow.Author.Needs.{needs}
 use Rattle.memory.proofs.Memory.after.Statement.{statement}
 use Rattle.memory.proofs.Memory.after.Tie as tie
-use Rattle.memory.proofs.Memory.none.Reads as none-reads
-use Rattle.memory.proofs.Memory.on_delivery.Reads as on-delivery-reads
 
 on-delivery-requires : tie.Need-on-delivery-requires
 on-delivery-requires c κs = search needs
@@ -27,7 +25,12 @@ none-requires-2 c κs = search needs
 
 returns-3 : tie.Need-returns-3
 unfolding afterAnswer if_then_else_
-returns-3 c = simp (ne-eqb _ _ (c .before .before .before .if1 .left), ne-eqb _ _ (c .before .before .if2 .left), eq-eqb _ _ (c .before .if3 .taken)) (c .none2 .ensures)
+returns-3 c =
+    simp (
+      ne-eqb _ _ (c .before .before .before .if1 .left),
+      ne-eqb _ _ (c .before .before .if2 .left),
+      eq-eqb _ _ (c .before .if3 .taken),
+    ) (c .none2 .ensures)
 
 returns-4 : tie.Need-returns-4
 unfolding afterAnswer if_then_else_

@@ -9,17 +9,22 @@ use Rattle.memory.proofs.Memory.agrees.Tie as tie
 returns : tie.Need-returns
 unfolding agrees
 returns c =
-    sym (test-holds _ _ _ (eq-eqb _ _ (c .before .before .before .before .before .before .before .if1 .taken)) ∙ test-holds _ _ _ (eq-eqb _ _ (c .before .before .before .before .if2 .taken)) ∙ test-holds _ _ _ (eq-eqb _ _ (c .before .if3 .taken)) ∙ test-holds _ _ _ (c .if4 .taken))
+    sym (test-holds _ _ _ (eq-eqb _ _ (c .before .before .before .before .before .before .before .if1 .taken))
+    ∙ test-holds _ _ _ (eq-eqb _ _ (c .before .before .before .before .if2 .taken)) ∙ test-holds _ _ _ (eq-eqb _ _ (c .before .if3 .taken))
+    ∙ test-holds _ _ _ (c .if4 .taken))
 
 returns-2 : tie.Need-returns-2
 unfolding agrees
 returns-2 c =
-    sym (test-holds _ _ _ (eq-eqb _ _ (c .before .before .before .before .before .before .before .before .if1 .taken)) ∙ test-holds _ _ _ (eq-eqb _ _ (c .before .before .before .before .before .if2 .taken)) ∙ test-holds _ _ _ (eq-eqb _ _ (c .before .before .if3 .taken)) ∙ test-fails _ _ _ (c .before .if4 .left))
+    sym (test-holds _ _ _ (eq-eqb _ _ (c .before .before .before .before .before .before .before .before .if1 .taken))
+    ∙ test-holds _ _ _ (eq-eqb _ _ (c .before .before .before .before .before .if2 .taken))
+    ∙ test-holds _ _ _ (eq-eqb _ _ (c .before .before .if3 .taken)) ∙ test-fails _ _ _ (c .before .if4 .left))
 
 returns-3 : tie.Need-returns-3
 unfolding agrees
 returns-3 c =
-    sym (test-holds _ _ _ (eq-eqb _ _ (c .before .before .before .before .before .before .if1 .taken)) ∙ test-holds _ _ _ (eq-eqb _ _ (c .before .before .before .if2 .taken)) ∙ test-fails _ _ _ (ne-eqb _ _ (c .if3 .left)))
+    sym (test-holds _ _ _ (eq-eqb _ _ (c .before .before .before .before .before .before .if1 .taken))
+    ∙ test-holds _ _ _ (eq-eqb _ _ (c .before .before .before .if2 .taken)) ∙ test-fails _ _ _ (ne-eqb _ _ (c .if3 .left)))
 
 returns-4 : tie.Need-returns-4
 unfolding agrees

@@ -6,9 +6,6 @@ use Rattle.memory.specs.Memory.{soundMemory}
 use borrow.Author.Needs.{needs}
 use Rattle.memory.proofs.Memory.is_sound.Statement.{statement}
 use Rattle.memory.proofs.Memory.is_sound.Tie as tie
-use Rattle.labels.proofs.Label.none.Reads as none-reads
-use Rattle.marks.proofs.Marks.any.Reads as any-reads
-use Rattle.memory.proofs.Memory.agrees.Reads as agrees-reads
 
 any-requires : tie.Need-any-requires
 any-requires c κs = search needs
@@ -30,19 +27,43 @@ agrees-requires c κs = search needs
 
 returns : tie.Need-returns
 unfolding soundMemory if_then_else_
-returns c = simp (eq-eqb (length (c .before .before .before .before .before .args .self .marks .words)) 4 (search needs), ← c .before .before .before .any .ensures, c .before .before .if1 .taken, c .enum-told .given .1)
+returns c =
+    simp (
+      eq-eqb (length (c .before .before .before .before .before .args .self .marks .words)) 4 (search needs),
+      ← c .before .before .before .any .ensures,
+      c .before .before .if1 .taken,
+      c .enum-told .given .1,
+    )
 
 returns-2 : tie.Need-returns-2
 unfolding soundMemory if_then_else_
-returns-2 c = simp (eq-eqb (length (c .before .before .before .before .before .args .self .marks .words)) 4 (search needs), ← c .before .before .before .any .ensures, c .before .before .if1 .taken, c .enum-told2 .given .1)
+returns-2 c =
+    simp (
+      eq-eqb (length (c .before .before .before .before .before .args .self .marks .words)) 4 (search needs),
+      ← c .before .before .before .any .ensures,
+      c .before .before .if1 .taken,
+      c .enum-told2 .given .1,
+    )
 
 returns-3 : tie.Need-returns-3
 unfolding soundMemory if_then_else_
-returns-3 c = simp (eq-eqb (length (c .before .before .before .before .before .before .args .self .marks .words)) 4 (search needs), ← c .before .before .before .before .any .ensures, c .before .before .before .if1 .taken, c .before .enum-told3 .given .1)
+returns-3 c =
+    simp (
+      eq-eqb (length (c .before .before .before .before .before .before .args .self .marks .words)) 4 (search needs),
+      ← c .before .before .before .before .any .ensures,
+      c .before .before .before .if1 .taken,
+      c .before .enum-told3 .given .1,
+    )
 
 returns-4 : tie.Need-returns-4
 unfolding soundMemory if_then_else_
-returns-4 c = simp (eq-eqb (length (c .before .before .before .before .before .args .self .marks .words)) 4 (search needs), ← c .before .before .before .any .ensures, c .before .before .if1 .left, ← c .before .none .ensures) (c .agrees .ensures)
+returns-4 c =
+    simp (
+      eq-eqb (length (c .before .before .before .before .before .args .self .marks .words)) 4 (search needs),
+      ← c .before .before .before .any .ensures,
+      c .before .before .if1 .left,
+      ← c .before .none .ensures,
+    ) (c .agrees .ensures)
 
 pub is-sound-spec : {M : Type 1} → statement M
 is-sound-spec =

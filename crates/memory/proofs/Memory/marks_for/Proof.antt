@@ -4,8 +4,6 @@ use Rattle.memory.specs.Memory.{marksFor}
 use borrow.Author.Needs.{needs}
 use Rattle.memory.proofs.Memory.marks_for.Statement.{statement}
 use Rattle.memory.proofs.Memory.marks_for.Tie as tie
-use Rattle.marks.proofs.Marks.none.Reads as none-reads
-use Rattle.memory.proofs.Memory.agrees.Reads as agrees-reads
 
 agrees-requires : tie.Need-agrees-requires
 agrees-requires c κs = search needs

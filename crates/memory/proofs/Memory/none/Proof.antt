@@ -2,7 +2,6 @@
 use borrow.Author.Needs.{needs}
 use Rattle.memory.proofs.Memory.none.Statement.{statement}
 use Rattle.memory.proofs.Memory.none.Tie as tie
-use Rattle.marks.proofs.Marks.none.Reads as none-reads
 
 none-requires : tie.Need-none-requires
 none-requires c κs = search needs

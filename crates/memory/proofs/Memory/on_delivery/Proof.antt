@@ -3,8 +3,6 @@ use Rattle.memory.specs.Memory.{onDelivery}
 use borrow.Author.Needs.{needs}
 use Rattle.memory.proofs.Memory.on_delivery.Statement.{statement}
 use Rattle.memory.proofs.Memory.on_delivery.Tie as tie
-use Rattle.labels.proofs.Label.of.Reads as of-reads
-use Rattle.memory.proofs.Memory.remembering.Reads as remembering-reads
 
 enum-told : tie.Need-enum-told
 enum-told c = search needs

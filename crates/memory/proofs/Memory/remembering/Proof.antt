@@ -2,8 +2,6 @@
 use borrow.Author.Needs.{needs}
 use Rattle.memory.proofs.Memory.remembering.Statement.{statement}
 use Rattle.memory.proofs.Memory.remembering.Tie as tie
-use Rattle.marks.proofs.Marks.with_mark.Reads as with-mark-reads
-use Rattle.memory.proofs.Memory.marks_for.Reads as marks-for-reads
 
 marks-for-requires : tie.Need-marks-for-requires
 marks-for-requires c κs = search needs

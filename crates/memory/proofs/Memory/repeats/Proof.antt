@@ -4,9 +4,6 @@ use Rattle.memory.specs.Memory.{repeats}
 use borrow.Author.Needs.{needs}
 use Rattle.memory.proofs.Memory.repeats.Statement.{statement}
 use Rattle.memory.proofs.Memory.repeats.Tie as tie
-use Rattle.labels.proofs.Label.of.Reads as of-reads
-use Rattle.marks.proofs.Marks.marked.Reads as marked-reads
-use Rattle.memory.proofs.Memory.agrees.Reads as agrees-reads
 
 enum-told : tie.Need-enum-told
 enum-told c = search needs
@@ -28,7 +25,8 @@ marked-requires c κs = search needs
 
 returns : tie.Need-returns
 unfolding repeats if_then_else_
-returns c = simp (c .before .before .before .before .before .enum-told3 .given .1, ← c .before .before .before .before .of .ensures, ← c .before .before .agrees .ensures, c .before .if1 .taken) (c .marked .ensures)
+returns c =
+    simp (c .before .before .before .before .before .enum-told3 .given .1, ← c .before .before .before .before .of .ensures, ← c .before .before .agrees .ensures, c .before .if1 .taken) (c .marked .ensures)
 
 returns-2 : tie.Need-returns-2
 unfolding repeats
@@ -40,7 +38,8 @@ returns-3 c = simp (c .enum-told2 .given .1)
 
 returns-4 : tie.Need-returns-4
 unfolding repeats if_then_else_
-returns-4 c = simp (c .before .before .before .before .enum-told3 .given .1, ← c .before .before .before .of .ensures, ← c .before .agrees .ensures, c .if1 .left)
+returns-4 c =
+    simp (c .before .before .before .before .enum-told3 .given .1, ← c .before .before .before .of .ensures, ← c .before .agrees .ensures, c .if1 .left)
 
 pub repeats-spec : {M : Type 1} → statement M
 repeats-spec =

@@ -98,7 +98,8 @@ returns-2 : tie.Need-returns-2
 returns-2 c =
     let a = c .before .before .before .before .before .before .before .before .before .before .before .before .args in
     let to = c .before .before .before .before .before .before .to .given .0 .0 in
-    let points = points-to _ _ to (sym (c .before .before .before .before .before .before .before .before .pointer-at .ensures) ∙ c .before .before .before .before .before .before .to .given .1) in
+    let points = points-to _ _ to (sym (c .before .before .before .before .before .before .before .before .pointer-at .ensures)
+    ∙ c .before .before .before .before .before .before .to .given .1) in
     c .before .before .started .ensures
     ∙ ap
     (λ (bytes : List ℕ). gatheredOf (started (a .self .form) (memoryIn (now (a .memory))) bytes (a .start + 1 + to) (now (a .buffer))))

@@ -1,7 +1,6 @@
 -- `reader::Gathering::head_with` meets its contract: the checks, and then the head from the payload. Assumes nothing.
 use mathlib.Core.Path.{sym, ap, _∙_}
 use denote.Ref.{now}
-use Rattle.memory_words.specs.Words.{memoryIn}
 use Rattle.reader.specs.Head.{headOf}
 use Rattle.reader.specs.Gathering.{gatheredOf}
 use Rattle.reader.proofs.Checking.{refused-step, step-from, place-passed}

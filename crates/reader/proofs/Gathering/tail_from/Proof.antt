@@ -85,7 +85,8 @@ returns-2 : tie.Need-returns-2
 returns-2 c memory =
     let a = c .before .before .before .before .before .before .before .before .before .before .args in
     let reader = withMemory memory (a .self) in
-    let unit = no-unit-start _ _ (sym (c .before .before .before .before .before .before .before .pointer-at .ensures) ∙ c .before .before .before .before .before .enum-told .given .1) in
+    let unit = no-unit-start _ _ (sym (c .before .before .before .before .before .before .before .pointer-at .ensures)
+    ∙ c .before .before .before .before .before .enum-told .given .1) in
     c .before .before .continued .ensures memory
     ∙ ap (λ (bytes : List ℕ). gatheredOf (continued reader bytes (now (a .buffer)))) (part-to-end (now (a .packet)) (a .start))
     ∙ sym (ap gatheredOf (tail-without-unit-start reader (now (a .packet)) (a .start) (now (a .buffer)) unit))
@@ -97,7 +98,8 @@ returns-3 : tie.Need-returns-3
 returns-3 c memory =
     let a = c .before .before .before .before .before .before .before .before .before .before .before .before .args in
     let reader = withMemory memory (a .self) in
-    let points = points-to _ _ _ (sym (c .before .before .before .before .before .before .before .before .before .pointer-at .ensures) ∙ c .before .before .before .before .before .before .before .to .given .1) in
+    let points = points-to _ _ _ (sym (c .before .before .before .before .before .before .before .before .before .pointer-at .ensures)
+    ∙ c .before .before .before .before .before .before .before .to .given .1) in
     c .before .before .continued2 .ensures memory
     ∙ ap (λ (bytes : List ℕ). gatheredOf (continued reader bytes (now (a .buffer)))) (part-of (now (a .packet)) (a .start + 1) _)
     ∙ sym (ap gatheredOf (tail-up-to reader (now (a .packet)) (a .start) (now (a .buffer)) _ points (c .before .before .before .before .before .if1 .left)))

@@ -16,7 +16,8 @@ counts-are-sound-requires c κs = search needs
 
 returns : tie.Need-returns
 unfolding sound if_then_else_
-returns c = simp (← c .before .before .before .is-sound .ensures, c .before .before .if1 .taken, ← c .before .gathering .ensures) (c .counts-are-sound .ensures)
+returns c =
+    simp (← c .before .before .before .is-sound .ensures, c .before .before .if1 .taken, ← c .before .gathering .ensures) (c .counts-are-sound .ensures)
 
 returns-2 : tie.Need-returns-2
 unfolding sound if_then_else_
