@@ -1,9 +1,7 @@
 -- `reader::started` meets its contract: refused, or begun. Assumes nothing.
 use mathlib.Core.Path.{sym, _∙_}
 use borrow.Author.Tests.{eq-eqb, ne-eqb}
-use denote.Ref.{now}
 use Rattle.fields.specs.Choice.{if_then_else_}
-use Rattle.memory_words.specs.Words.{memoryIn}
 use Rattle.reader.specs.Head.{started}
 use Rattle.gathering_rules.proofs.Starts.{starts}
 use borrow.Author.Needs.{needs}
@@ -31,7 +29,7 @@ returns c =
       ← c .before .before .before .before .before .start-refusal .ensures,
       eq-eqb _ _ (c .before .before .before .before .if1 .taken),
     )
-    (c .before .before .begun .ensures (memoryIn (now (c .before .before .before .before .before .before .before .before .before .args .memory))))
+    (c .before .before .begun .ensures _)
 
 idle-requires : tie.Need-idle-requires
 idle-requires c κs = search needs
