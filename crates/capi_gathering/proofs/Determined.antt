@@ -1,6 +1,6 @@
 -- Any two answers that a contract allows are equal, and so is what memory and buffer hold after them. Assumes nothing.
 use mathlib.Core.Path.{sym, ap, _∙_}
-use mathlib.Core.List.{_++_}
+use mathlib.Core.List.{[], _∷_}
 use denote.Ref.{now}
 use Rattle.fields.specs.Determines.{Determines, DeterminesBoth}
 use Rattle.capi_gathering.specs.Gathering.{OutcomeForC}
@@ -16,13 +16,13 @@ jambpepper-fresh-determined κs arguments x y x-exit y-exit p q = p ∙ sym q
 pub jambpepper-is-sound-determined : Determines is-sound.Post
 jambpepper-is-sound-determined κs arguments x y x-exit y-exit p q = p ∙ sym q
 
-pub jambpepper-tail-determined : DeterminesBoth tail.Post (λ κs exit. now (exit .1 .0) ++ now (exit .1 .1 .1 .0))
+pub jambpepper-tail-determined : DeterminesBoth tail.Post (λ κs exit. now (exit .1 .0) ∷ now (exit .1 .1 .1 .0) ∷ [])
 jambpepper-tail-determined κs arguments x y x-exit y-exit p q =
-    (ap (λ (left : OutcomeForC). left .step) (p ∙ sym q), ap (λ (left : OutcomeForC). left .memory ++ left .buffer) (p ∙ sym q))
+    (ap (λ (left : OutcomeForC). left .step) (p ∙ sym q), ap (λ (left : OutcomeForC). left .memory ∷ left .buffer ∷ []) (p ∙ sym q))
 
-pub jambpepper-head-determined : DeterminesBoth head.Post (λ κs exit. now (exit .1 .0) ++ now (exit .1 .1 .1 .0))
+pub jambpepper-head-determined : DeterminesBoth head.Post (λ κs exit. now (exit .1 .0) ∷ now (exit .1 .1 .1 .0) ∷ [])
 jambpepper-head-determined κs arguments x y x-exit y-exit p q =
-    (ap (λ (left : OutcomeForC). left .step) (p ∙ sym q), ap (λ (left : OutcomeForC). left .memory ++ left .buffer) (p ∙ sym q))
+    (ap (λ (left : OutcomeForC). left .step) (p ∙ sym q), ap (λ (left : OutcomeForC). left .memory ∷ left .buffer ∷ []) (p ∙ sym q))
 
 pub jambpepper-sum32-determined : Determines sum32.Post
 jambpepper-sum32-determined κs arguments x y x-exit y-exit p q = p ∙ sym q
