@@ -16,7 +16,7 @@ use Rattle.memory.specs.declared.Form.{Form}
 use Rattle.memory.specs.declared.Memory.{Memory}
 use Rattle.memory.specs.Memory.{noMemory, marksFor, onDelivery, afterAnswer}
 use Rattle.memory.proofs.Remembering.{marks-for-four}
-use Rattle.memory_words.specs.Words.{memoryWords, wordsOf, memoryIn, written}
+use Rattle.memory_words.specs.Words.{memoryWords, wordsOf, memoryIn, put, written}
 use Rattle.memory_words.proofs.Words.{Fits, none-fits, memory-again, memory-in-fits, numbers-fit}
 use Rattle.delivered.specs.declared.Place.{Place}
 use Rattle.reader.specs.declared.Reader.{Reader}
@@ -131,12 +131,12 @@ answer-none answer form section other =
     (of-both (λ (m : Memory). m ≡ noMemory) _ _ _ refl (of-both (λ (m : Memory). m ≡ noMemory) _ _ _ refl refl))
 
 no-words : (words : List ℕ) → length words ≡ 0 → ((memory : Memory) → written memory words ≡ words) × (memoryIn words ≡ noMemory)
-unfolding written memoryIn if_then_else_
+unfolding put memoryIn if_then_else_
 no-words [] l = (λ memory. refl, refl)
 no-words (first ∷ rest) l = absurd (let m = l in omega arith)
 
 five-words : (memory : Memory) (words : List ℕ) → length words ≡ memoryWords → written memory words ≡ wordsOf memory
-unfolding written
+unfolding put
 five-words memory words l = test-holds _ _ _ (eq-eqb _ _ l)
 
 module _ (reader : Reader) (words : List ℕ) (beside : Beside reader words) (read : Place → List ℕ → List ℕ) (left : Outcome)

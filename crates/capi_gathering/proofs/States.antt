@@ -5,14 +5,15 @@ use mathlib.Core.Bool.{true, false}
 use mathlib.Core.List.{List, [], _∷_}
 use native.Mathlib.Nat.{mod-eq-of-lt}
 use native.Mathlib.Omega.{arith}
-use borrow.Author.Tests.{eqb-true, leb-true, ltb-true}
+use borrow.Author.Tests.{eqb-true, leb-true, ltb-true, not-false}
 use lib.ListN.{length}
-use Rattle.fields.specs.Choice.{_is_}
+use Rattle.fields.specs.Choice.{if_then_else_, _is_}
 use Rattle.fields.proofs.Choices.{test-holds, test-fails, either-way, and-holds}
+use Rattle.memory.specs.declared.Form.{Form}
 use Rattle.memory.specs.declared.Memory.{Memory}
 use Rattle.memory.specs.Memory.{afterAnswer}
-use Rattle.memory_words.specs.Words.{memoryIn, written, wordsAfter}
-use Rattle.memory_words.proofs.Words.{InRange, words-remember}
+use Rattle.memory_words.specs.Words.{memoryWords, memoryIn, written, wordsAfter}
+use Rattle.memory_words.proofs.Words.{InRange, words-remember, not-five-stay}
 use Rattle.delivered.specs.declared.Place.{Place}
 use Rattle.reader.specs.declared.Reader.{Reader}
 use Rattle.reader.specs.declared.Gathering.{Gathering}
@@ -22,7 +23,7 @@ use Rattle.reader.specs.Gathering.{withMemory, Gathered, gathered, gatheredOf}
 use Rattle.reader.specs.Tail.{tailOf}
 use Rattle.reader.specs.Head.{headOf}
 use Rattle.reader.proofs.MemoryByAnswer.{ByAnswer, tail-fits, head-fits}
-use Rattle.capi_gathering.specs.Gathering.{namesForm, namesFlag, namesMemory, namesReader, gatheringFromC, readerFromC}
+use Rattle.capi_gathering.specs.Gathering.{formOf, namesForm, namesFlag, namesMemory, namesReader, gatheringFromC, readerFromC}
 use Rattle.capi_gathering.specs.Gathering.{outcomeForC, OutcomeForC, gatheringStepForC, refusedForC, workedForC}
 use Rattle.capi_gathering.specs.declared.JambpepperReader.{JambpepperReader}
 use Rattle.capi_gathering.specs.declared.JambpepperStep.{JambpepperStep}
@@ -55,6 +56,21 @@ words-in-range form words named =
     either-way _ _ _ _ named (λ other none. no-words-in-range words (eqb-true _ _ none))
     (λ once five. ltb-true _ _ (and-holds _ _ five .1))
 
+-- five words are lent in ONCE alone, so that what ONCE remembers is what the form does
+words-of-its-form : (number : ℕ) (form : Form) → form ≡ formOf number → (words : List ℕ) → namesMemory number words ≡ true
+    → (answer : ℕ) (section : List ℕ)
+    → wordsAfter answer words section ≡ written (afterAnswer answer form (memoryIn words) section) words
+unfolding namesMemory formOf if_then_else_
+words-of-its-form number form its words named answer section =
+    words-remember answer words section (words-in-range number words named)
+    ∙ either-way _ _ _ _ named
+    (λ other none.
+    let few : (length words ≡ memoryWords → ⊥) = λ five. let empty = eqb-true (length words) 0 none in omega arith in
+    not-five-stay _ _ words few ∙ sym (not-five-stay _ _ words few))
+    (λ once five.
+    let isOnce : form ≡ Form.Once = its ∙ ap formOf (eqb-true number 2 (not-false _ once)) in
+    ap (λ (f : Form). written (afterAnswer answer f (memoryIn words) section) words) (sym isOnce))
+
 -- ---- a step
 
 module _ (state : JambpepperReader) (words packet buffer : List ℕ) (gathering : Gathering) (its : gathering ≡ gatheringFromC state)
@@ -68,16 +84,17 @@ module _ (state : JambpepperReader) (words packet buffer : List ℕ) (gathering 
     -- it names one: what C is told is that reader's step, and the words are what it remembers then
     pub worked-as-named : namesReader state words ≡ true → (read : Place → List ℕ → List ℕ)
         → ByAnswer (memoryIn words) read (stepOf (readerFromC state words) packet buffer)
+        → stepOf (readerFromC state words) packet buffer .step .reader .form ≡ formOf (state .form)
         → (told : JambpepperStep) → told ≡ gatheringStepForC step
-        → (wordsThen : List ℕ)
-        → wordsThen ≡ wordsAfter (step .answer) (step .gathering .form) words (read (step .place) after)
+        → (wordsThen : List ℕ) → wordsThen ≡ wordsAfter (step .answer) words (read (step .place) after)
         → outcomeForC told wordsThen after ≡ workedForC stepOf state words packet buffer
     unfolding workedForC
-    worked-as-named named read by told tells wordsThen remembers =
+    worked-as-named named read by sameForm told tells wordsThen remembers =
         let left = stepOf (readerFromC state words) packet buffer in
-        let range = words-in-range (state .form) words (named-parts state words named .memory) in
+        let its-form = ap (λ (g : Gathered). g .step .gathering .form) worked-as-its ∙ sameForm in
         ap₂ (λ (s : JambpepperStep) (w : List ℕ). outcomeForC s w after) tells
-        (remembers ∙ words-remember (step .answer) (step .gathering .form) words (read (step .place) after) range)
+        (remembers ∙ words-of-its-form (state .form) (step .gathering .form) its-form words (named-parts state words named .memory)
+        (step .answer) (read (step .place) after))
         ∙ ap tellsOf worked-as-its
         ∙ ap (λ (m : Memory). outcomeForC (gatheringStepForC (gatheredOf left .step)) (written m words) (left .buffer))
         (sym (by .follows))

@@ -1,7 +1,9 @@
 // The C face of gathering: the state and both steps; and of the CRC, so that the steps and C call one copy of it.
-ghost use Prim.Native.Nat.{_≤_};
+ghost use Prim.Native.Nat.{_+_, _≤_};
 ghost use mathlib.Core.Path.{_≡_};
 ghost use mathlib.Core.Bool.{true};
+ghost use lib.ListN.{length, take, drop};
+ghost use Rattle.memory_words.specs.Words.{wordsAfter};
 ghost use Rattle.mpegts_crc.specs.Crc.{crcOf};
 ghost use Rattle.reader.specs.Tail.{tailOf};
 ghost use Rattle.reader.specs.Head.{headOf};
@@ -190,6 +192,16 @@ pub extern "C" fn jambpepper_is_sound(reader: JambpepperReader, memory: &[u64]) 
     0
 }
 
+// Writes what is remembered after a step with this answer, which delivered the section there.
+fn remember_at(memory: &mut [u64], answer: u8, start: u16, len: u16, holder: &[u8])
+    requires { ⌜ start + len ≤ length (now holder) ⌝ }
+    ensures { λ _. ⌜ now (memory .exit) ≡ wordsAfter answer (now (memory .entry)) (take len (drop start (now (holder .entry)))) ⌝ }
+{
+    let from = start as usize;
+    let end = from + len as usize;
+    remember(memory, answer, &holder[from..end]);
+}
+
 #[no_mangle]
 pub extern "C" fn jambpepper_tail(
     reader: JambpepperReader,
@@ -203,10 +215,7 @@ pub extern "C" fn jambpepper_tail(
         let step = gathering_from_c(reader).tail_with(memory, packet, buffer);
         let told = step_for_c(step);
         if remembers(memory, step.answer) {
-            let gathering = step.gathering;
-            let form = gathering.form;
-            let end = step.place.len as usize;
-            remember(memory, step.answer, form, &buffer[..end]);
+            remember_at(memory, step.answer, 0, step.place.len, buffer);
         }
         return told;
     }
@@ -226,11 +235,13 @@ pub extern "C" fn jambpepper_head(
         let step = gathering_from_c(reader).head_with(memory, packet, buffer);
         let told = step_for_c(step);
         if remembers(memory, step.answer) {
-            let gathering = step.gathering;
-            let form = gathering.form;
-            let start = step.place.start as usize;
-            let end = start + step.place.len as usize;
-            remember(memory, step.answer, form, &packet[start..end]);
+            remember_at(
+                memory,
+                step.answer,
+                step.place.start,
+                step.place.len,
+                packet,
+            );
         }
         return told;
     }

@@ -7,6 +7,7 @@ use Rattle.fields.specs.Choice.{if_then_else_, _isBelow_, _isAbove_}
 use Rattle.answers.specs.Numbers.{under3Bytes, syntaxIndicator, under8Bytes, lengthAbove1021, alreadyDelivered}
 use Rattle.psi.specs.Header as section
 use Rattle.psi.specs.Header.{sectionLength, lengthLimit}
+use Rattle.psi.specs.declared.SectionCommonHeader.{SectionCommonHeader}
 use Rattle.memory.specs.declared.Form.{Form}
 use Rattle.memory.specs.declared.Memory.{Memory}
 use Rattle.memory.specs.Memory.{repeats}
@@ -33,3 +34,13 @@ startRefusal form memory bytes =
     else if sectionLength bytes isAbove lengthLimit then lengthAbove1021
     else if repeats form memory bytes then alreadyDelivered
     else 0
+
+-- the part of it that the header tells, of so many bytes
+abbrev pub lengthRefusal : SectionCommonHeader → ℕ
+lengthRefusal header = if header .«section_length» isAbove lengthLimit then lengthAbove1021 else 0
+
+unfoldable pub headerRefusal : Form → SectionCommonHeader → ℕ → ℕ
+headerRefusal form header len =
+    if not (takesSyntax form (header .«section_syntax_indicator»)) then syntaxIndicator
+    else if len isBelow leastHeld form then under8Bytes
+    else lengthRefusal header

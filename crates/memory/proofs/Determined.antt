@@ -2,15 +2,11 @@
 use mathlib.Core.Path.{sym, _∙_}
 use Rattle.fields.specs.Determines.{Determines}
 use Rattle.memory.proofs.Memory.none.Reads as none
-use Rattle.memory.proofs.Memory.repeats.Reads as repeats
 use Rattle.memory.proofs.Memory.after.Reads as after
 use Rattle.memory.proofs.Memory.is_sound.Reads as is-sound
 
 pub none-determined : Determines none.Post
 none-determined κs arguments x y x-exit y-exit p q = p ∙ sym q
-
-pub repeats-determined : Determines repeats.Post
-repeats-determined κs arguments x y x-exit y-exit p q = p ∙ sym q
 
 pub after-determined : Determines after.Post
 after-determined κs arguments x y x-exit y-exit p q = p ∙ sym q

@@ -4,7 +4,7 @@ use mathlib.Core.Path.{_≡_, refl, sym, ap, _∙_}
 use mathlib.Core.Bool.{Bool, true, false, false≢true}
 use mathlib.Core.List.{List}
 use native.Mathlib.Omega.{arith}
-use borrow.Author.Tests.{le-leb, ne-eqb, eqb-true}
+use borrow.Author.Tests.{le-leb, eq-eqb, ne-eqb, eqb-true}
 use Rattle.fields.specs.Choice.{if_then_else_, _is_}
 use Rattle.fields.proofs.Choices.{test-holds, test-fails, of-both, either-way, and-holds, both-hold}
 use Rattle.answers.specs.Numbers.{delivered, pointerBeyondRest, under3Bytes}
@@ -16,7 +16,7 @@ use Rattle.labels.specs.declared.Label.{Label}
 use Rattle.labels.proofs.Labels.{version-below-32, section-number-below-256}
 use Rattle.memory.specs.declared.Form.{Form}
 use Rattle.memory.specs.declared.Memory.{Memory}
-use Rattle.memory.specs.Memory.{noMemory, mayRemember, soundMemory, sameFlag, agrees, marksFor, remembering, onDelivery, afterRefusal, afterAnswer}
+use Rattle.memory.specs.Memory.{noMemory, mayRemember, soundMemory, sameFlag, agrees, repeats, marksFor, remembering, onDelivery, afterRefusal, afterAnswer}
 
 -- ---- sound memories
 
@@ -60,30 +60,61 @@ pub after-refusal-sound : (form : Form) (n : ℕ) (memory : Memory) → soundMem
 after-refusal-sound form n memory h =
     of-both (λ (m : Memory). soundMemory form m ≡ true) _ _ _ (nothing-remembered-sound form) h
 
--- ---- no memory
+-- ---- four numbers that agree
 
-same-flag : (flag : Bool) → sameFlag flag false ≡ true → flag ≡ false
+pub record Agreeing (memory : Memory) (label : Label) : Type 0 where
+  pub tableId : memory .«table_id» ≡ label .«table_id»
+  pub id : memory .id ≡ label .id
+  pub version : memory .version ≡ label .version
+  pub current : memory .«current_next_indicator» ≡ label .«current_next_indicator»
+
+same-flags : (flag other : Bool) → sameFlag flag other ≡ true → flag ≡ other
 unfolding if_then_else_
-same-flag true h = absurd (false≢true h)
-same-flag false h = refl
+same-flags true other h = sym h
+same-flags false true h = absurd (false≢true h)
+same-flags false false h = refl
 
--- four numbers that are 0, and four words
-all-zero : (memory : Memory) → agrees memory noLabel ≡ true → memory .marks ≡ noMarks → memory ≡ noMemory
+same-as-itself : (flag : Bool) → sameFlag flag flag ≡ true
+unfolding if_then_else_
+same-as-itself true = refl
+same-as-itself false = refl
+
+pub agreeing : (memory : Memory) (label : Label) → agrees memory label ≡ true → Agreeing memory label
 unfolding agrees
-all-zero memory h none =
+agreeing memory label h =
     let behind-table-id = and-holds _ _ h in
     let behind-id = and-holds _ _ (behind-table-id .1) in
     let behind-version = and-holds _ _ (behind-id .1) in
-    ap (λ (n : ℕ). made n (memory .id) (memory .version) (memory .«current_next_indicator») (memory .marks))
-    (eqb-true _ _ (behind-table-id .0))
-    ∙ ap (λ (n : ℕ). made 0 n (memory .version) (memory .«current_next_indicator») (memory .marks)) (eqb-true _ _ (behind-id .0))
-    ∙ ap (λ (n : ℕ). made 0 0 n (memory .«current_next_indicator») (memory .marks)) (eqb-true _ _ (behind-version .0))
-    ∙ ap (λ (b : Bool). made 0 0 0 b (memory .marks)) (same-flag _ (behind-version .1))
-    ∙ ap (made 0 0 0 false) none
-  where
-    made : ℕ → ℕ → ℕ → Bool → Marks → Memory
-    made tableId id version current marks =
-        record { «table_id» = tableId; id = id; version = version; «current_next_indicator» = current; marks = marks }
+    record {
+      tableId = eqb-true _ _ (behind-table-id .0);
+      id = eqb-true _ _ (behind-id .0);
+      version = eqb-true _ _ (behind-version .0);
+      current = same-flags _ _ (behind-version .1);
+    }
+
+pub agrees-if : (memory : Memory) (label : Label) → Agreeing memory label → agrees memory label ≡ true
+unfolding agrees
+agrees-if memory label same =
+    both-hold _ _ (eq-eqb _ _ (same .tableId))
+    (both-hold _ _ (eq-eqb _ _ (same .id))
+    (both-hold _ _ (eq-eqb _ _ (same .version))
+    (ap (λ (flag : Bool). sameFlag flag (label .«current_next_indicator»)) (same .current) ∙ same-as-itself _)))
+
+-- ---- no memory
+
+-- four numbers that are 0, and four words
+all-zero : (memory : Memory) → agrees memory noLabel ≡ true → memory .marks ≡ noMarks → memory ≡ noMemory
+all-zero memory h none =
+    let same = agreeing memory noLabel h in
+    rw (same .tableId, same .id, same .version, same .current, none) refl
+
+-- what remembers nothing refuses nothing
+pub nothing-repeats : (form : Form) (bytes : List ℕ) → repeats form noMemory bytes ≡ false
+unfolding repeats
+nothing-repeats Form.Compact bytes = refl
+nothing-repeats Form.Full bytes = refl
+nothing-repeats Form.Once bytes =
+    of-both (λ (b : Bool). b ≡ false) _ _ _ (none-marked (labelOf bytes .«section_number»)) refl
 
 -- a form that may remember no version remembers nothing
 pub nothing-where-none-may : (form : Form) → ((version : ℕ) → mayRemember form version ≡ false) → (memory : Memory)

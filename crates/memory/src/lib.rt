@@ -1,6 +1,6 @@
 // The forms of a reader, and what the form ONCE remembers.
 ghost use mathlib.Core.Path.{_≡_};
-ghost use Rattle.memory.specs.Memory.{noMemory, soundMemory, agrees, repeats};
+ghost use Rattle.memory.specs.Memory.{noMemory, soundMemory, agrees};
 ghost use Rattle.memory.specs.Memory.{marksFor, remembering, onDelivery, afterAnswer};
 use answers::Answer;
 use labels::Label;
@@ -49,24 +49,6 @@ impl Memory {
             }
         }
         false
-    }
-
-    // Whether a section that starts with these bytes is one that was delivered.
-    pub fn repeats(self, form: Form, bytes: &[u8]) -> bool
-        ensures { λ r. ⌜ r ≡ repeats form self (now (bytes .entry)) ⌝ }
-    {
-        match form {
-            Form::Compact => false,
-            Form::Full => false,
-            Form::Once => {
-                let label = Label::of(bytes);
-                let marks = self.marks;
-                if self.agrees(label) {
-                    return marks.marked(label.section_number);
-                }
-                false
-            }
-        }
     }
 
     // The marks that were put for the label's four numbers.

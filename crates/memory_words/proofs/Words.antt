@@ -1,19 +1,24 @@
 -- Five words: written one after another, and read again. Assumes nothing.
 use Prim.Native.Nat.{ℕ, suc, _+_, _*_, _/_, _%_, _^_, _<_}
 use mathlib.Core.Path.{_≡_, refl, sym, ap, _∙_}
-use mathlib.Core.Bool.{Bool, true, false, not, true≢false}
+use mathlib.Core.Bool.{Bool, true, false, not, true≢false, false≢true}
 use mathlib.Core.List.{List, [], _∷_}
 use native.Mathlib.Omega.{arith}
 use lib.ListN.{length, getD, set}
 use borrow.Author.Tests.{eq-eqb, ne-eqb, eqb-true, eqb-false}
 use mir.Val.{boolByte}
 use Rattle.fields.specs.Choice.{if_then_else_, _is_}
-use Rattle.fields.proofs.Choices.{test-holds, test-fails, second-chosen, of-both, of-either, either-way, by-test}
+use Rattle.fields.proofs.Choices.{test-holds, test-fails, second-chosen, of-both, of-either, either-way, by-test, and-holds}
+use Rattle.answers.specs.Numbers.{delivered}
+use Rattle.marks.specs.Marks.{noMarks, marked}
+use Rattle.marks.specs.declared.Marks.{Marks}
+use Rattle.labels.specs.Label.{labelOf}
+use Rattle.labels.specs.declared.Label.{Label}
 use Rattle.memory.specs.declared.Form.{Form}
 use Rattle.memory.specs.declared.Memory.{Memory}
-use Rattle.memory.specs.Memory.{noMemory, afterAnswer}
-use Rattle.memory.proofs.Remembering.{memory-stays}
-use Rattle.memory_words.specs.Words.{memoryWords, word, numbersOf, wordsOf, memoryIn, written, remembers, wordsAfter}
+use Rattle.memory.specs.Memory.{noMemory, agrees, repeats, marksFor, remembering, onDelivery, afterAnswer}
+use Rattle.memory.proofs.Remembering.{memory-stays, nothing-repeats, Agreeing, agreeing, agrees-if}
+use Rattle.memory_words.specs.Words.{memoryWords, word, numbersOf, numbersIn, wordsOf, memoryIn, agree, put, written, remembers, wordsAfter}
 
 -- a bool as a byte
 pub byte-is-1-or-0 : (b : Bool) → boolByte b ≡ (if b then 1 else 0)
@@ -141,11 +146,28 @@ bit-of n h =
     by-test (n is 1) (λ t. test-holds _ _ _ t ∙ sym (eqb-true n 1 t))
     (λ t. let other = eqb-false n 1 t in test-fails _ _ _ t ∙ (let none : 0 ≡ n = omega arith in none))
 
-number-again : (n : ℕ) → n < 2 ^ 33
-    → n % 2 ^ 8 + n / 2 ^ 8 % 2 ^ 16 * 2 ^ 8 + (if n / 2 ^ 24 % 2 is 1 then 1 else 0) * 2 ^ 24 + n / 2 ^ 25 % 2 ^ 8 * 2 ^ 25 ≡ n
-number-again n h =
+-- the last bits of a number, in two parts
+last-24 : (n : ℕ) → n % 2 ^ 24 ≡ n % 2 ^ 8 + n / 2 ^ 8 % 2 ^ 16 * 2 ^ 8
+last-24 n = omega arith
+
+last-25 : (n : ℕ) → n % 2 ^ 25 ≡ n % 2 ^ 24 + n / 2 ^ 24 % 2 * 2 ^ 24
+last-25 n = omega arith
+
+last-33 : (n : ℕ) → n % 2 ^ 33 ≡ n % 2 ^ 25 + n / 2 ^ 25 % 2 ^ 8 * 2 ^ 25
+last-33 n = omega arith
+
+-- the four numbers that are read in a word are its last 33 bits
+number-again : (n : ℕ)
+    → n % 2 ^ 8 + n / 2 ^ 8 % 2 ^ 16 * 2 ^ 8 + (if n / 2 ^ 24 % 2 is 1 then 1 else 0) * 2 ^ 24 + n / 2 ^ 25 % 2 ^ 8 * 2 ^ 25
+    ≡ n % 2 ^ 33
+number-again n =
     let bit = bit-of (n / 2 ^ 24 % 2) (omega arith) in
-    rw bit (let e : n % 2 ^ 8 + n / 2 ^ 8 % 2 ^ 16 * 2 ^ 8 + n / 2 ^ 24 % 2 * 2 ^ 24 + n / 2 ^ 25 % 2 ^ 8 * 2 ^ 25 ≡ n = omega arith in e)
+    rw (bit, last-33 n, last-25 n, last-24 n) refl
+
+numbers-in-words : (words : List ℕ) → length words ≡ memoryWords → numbersOf (memoryIn words) ≡ word words 0 % 2 ^ 33
+unfolding memoryIn
+numbers-in-words words five =
+    rw (test-fails _ noMemory _ (ap not (eq-eqb _ _ five))) (number-again (word words 0))
 
 five-again : (words : List ℕ) → length words ≡ memoryWords
     → word words 0 ∷ word words 1 ∷ word words 2 ∷ word words 3 ∷ word words 4 ∷ [] ≡ words
@@ -154,29 +176,126 @@ five-again words l =
     rw (u0 .made) (ap (λ (l : List ℕ). u0 .first ∷ l) (four-again (u0 .rest) (u0 .long)))
 
 pub words-again : (words : List ℕ) → InRange words → written (memoryIn words) words ≡ words
-unfolding written memoryIn
+unfolding put memoryIn
 words-again words range =
     of-either (λ (l : List ℕ). l ≡ words) _ _ _
     (λ five.
-    rw (test-fails _ noMemory _ (ap not five)) (rw (number-again (word words 0) range) (five-again words (eqb-true _ _ five))))
+    let whole : word words 0 % 2 ^ 33 ≡ word words 0 = omega arith in
+    rw (test-fails _ noMemory _ (ap not five))
+    (rw (number-again (word words 0)) (rw whole (five-again words (eqb-true _ _ five)))))
     (λ other. refl)
 
 -- where there are not five, nothing is written
-not-five-stay : (memory : Memory) (words : List ℕ) → (length words ≡ memoryWords → ⊥) → written memory words ≡ words
-unfolding written
-not-five-stay memory words other = test-fails _ _ _ (ne-eqb _ _ other)
+pub not-five-stay : (first : ℕ) (marks : Marks) (words : List ℕ) → (length words ≡ memoryWords → ⊥) → put first marks words ≡ words
+unfolding put
+not-five-stay first marks words other = test-fails _ _ _ (ne-eqb _ _ other)
 
 -- what is written after a step is what the step remembers
-pub words-remember : (answer : ℕ) (form : Form) (words section : List ℕ) → InRange words
-    → wordsAfter answer form words section ≡ written (afterAnswer answer form (memoryIn words) section) words
+pub words-remember : (answer : ℕ) (words section : List ℕ) → InRange words
+    → wordsAfter answer words section ≡ written (afterAnswer answer Form.Once (memoryIn words) section) words
 unfolding wordsAfter remembers
-words-remember answer form words section range =
-    of-either (λ (l : List ℕ). l ≡ written (afterAnswer answer form (memoryIn words) section) words) _ _ _ (λ its. refl)
+words-remember answer words section range =
+    of-either (λ (l : List ℕ). l ≡ written (afterAnswer answer Form.Once (memoryIn words) section) words) _ _ _ (λ its. refl)
     (λ none. either-way _ _ _ _ none
-    (λ other f. sym (not-five-stay _ words (λ five. true≢false (sym other ∙ ap not (eq-eqb _ _ five)))))
+    (λ other f. sym (not-five-stay _ _ words (λ five. true≢false (sym other ∙ ap not (eq-eqb _ _ five)))))
     (λ five f.
     let not2 = second-chosen _ _ _ _ f (λ g. true≢false g) in
     let not9 = second-chosen _ _ _ _ (not2 .1) (λ g. true≢false g) in
-    let same = memory-stays answer form (memoryIn words) section (eqb-false _ _ (not2 .0)) (eqb-false _ _ (not9 .0))
+    let same = memory-stays answer Form.Once (memoryIn words) section (eqb-false _ _ (not2 .0)) (eqb-false _ _ (not9 .0))
     (eqb-false _ _ (not9 .1)) in
     sym (ap (λ (m : Memory). written m words) same ∙ words-again words range)))
+
+-- ---- four numbers, compared as one word
+
+pub record LabelFits (label : Label) : Type 0 where
+  pub byte : label .«table_id» < 256
+  pub bytes : label .id < 65536
+  pub version : label .version < 256
+
+same-bit : (a b : Bool) → _≡_ {A = ℕ} (if a then 1 else 0) (if b then 1 else 0) → a ≡ b
+same-bit a b e = sym (flag-again a) ∙ ap (λ (n : ℕ). n is 1) e ∙ flag-again b
+
+numbers-tell : (memory : Memory) (label : Label) → Fits memory → LabelFits label → numbersOf memory ≡ numbersIn label
+    → Agreeing memory label
+numbers-tell memory label fits labelFits e =
+    let bit = flag-below-2 (memory .«current_next_indicator») in
+    let labelBit = flag-below-2 (label .«current_next_indicator») in
+    record {
+      tableId = omega (arith, fits .byte, fits .bytes, fits .version, labelFits .byte, labelFits .bytes, labelFits .version, bit, labelBit, e);
+      id = omega (arith, fits .byte, fits .bytes, fits .version, labelFits .byte, labelFits .bytes, labelFits .version, bit, labelBit, e);
+      version = omega (arith, fits .byte, fits .bytes, fits .version, labelFits .byte, labelFits .bytes, labelFits .version, bit, labelBit, e);
+      current = same-bit _ _
+          (omega (arith, fits .byte, fits .bytes, fits .version, labelFits .byte, labelFits .bytes, labelFits .version, bit, labelBit, e));
+    }
+
+same-numbers : (memory : Memory) (label : Label) → Agreeing memory label → numbersOf memory ≡ numbersIn label
+same-numbers memory label same = rw (same .tableId, same .id, same .version, same .current) refl
+
+-- the words' four numbers are the label's exactly if their word is
+pub agree-by-word : (words : List ℕ) (label : Label) → LabelFits label → length words ≡ memoryWords
+    → agree words label ≡ (word words 0 % 2 ^ 33 is numbersIn label)
+agree-by-word words label fits five =
+    let its = numbers-in-words words five in
+    test-holds _ _ _ (eq-eqb _ _ five)
+    ∙ by-test (agrees (memoryIn words) label)
+    (λ same. same ∙ sym (eq-eqb _ _ (sym its ∙ same-numbers _ label (agreeing _ label same))))
+    (λ other. other
+    ∙ sym (ne-eqb _ _ (λ e. true≢false (sym (agrees-if _ label (numbers-tell _ label (memory-in-fits words) fits (its ∙ e))) ∙ other))))
+
+-- ---- what the code does, by whether they agree and by the answer
+
+agreed-parts : (words : List ℕ) (label : Label) → agree words label ≡ true → (length words ≡ memoryWords) × (agrees (memoryIn words) label ≡ true)
+agreed-parts words label h = let parts = and-holds _ _ h in (eqb-true _ _ (parts .0), parts .1)
+
+pub marks-that-agree : (words : List ℕ) (label : Label) → agree words label ≡ true
+    → marksFor (memoryIn words) label ≡ memoryIn words .marks
+unfolding marksFor
+marks-that-agree words label h = test-holds _ _ _ (agreed-parts words label h .1)
+
+-- of other than five words there are no marks, whether they agree or not
+pub marks-that-do-not : (words : List ℕ) (label : Label) → agree words label ≡ false → marksFor (memoryIn words) label ≡ noMarks
+unfolding marksFor memoryIn
+marks-that-do-not words label h =
+    either-way _ _ _ _ h (λ five other. test-fails _ _ _ other)
+    (λ few f. rw (test-holds _ noMemory _ (ap not few)) (of-both (λ (m : Marks). m ≡ noMarks) _ _ _ refl refl))
+
+pub delivered-words : (answer : ℕ) (words section : List ℕ) → answer ≡ delivered
+    → wordsAfter answer words section ≡ written (remembering (memoryIn words) (labelOf section)) words
+unfolding wordsAfter remembers afterAnswer onDelivery if_then_else_
+delivered-words answer words section e =
+    rw e
+    (by-test (length words is memoryWords)
+    (λ five. rw five refl)
+    (λ few. rw few (sym (not-five-stay _ _ words (eqb-false _ _ few)))))
+
+-- 9 and 10, of which one is the answer where the words change and the answer is not 2
+forgets : (answer : ℕ) (words section : List ℕ) → (answer ≡ delivered → ⊥) → remembers words answer ≡ true
+    → afterAnswer answer Form.Once (memoryIn words) section ≡ noMemory
+unfolding remembers afterAnswer
+forgets answer words section not2 h =
+    test-fails _ _ _ (ne-eqb _ _ not2)
+    ∙ either-way _ _ _ _ h (λ few f. absurd (false≢true f))
+    (λ five g. either-way _ _ _ _ g (λ is2 f. absurd (not2 (eqb-true _ _ is2)))
+    (λ other g. either-way _ _ _ _ g (λ is9 f. test-holds _ _ _ is9) (λ not9 is10. test-fails _ _ _ not9 ∙ test-holds _ _ _ is10)))
+
+pub forgotten-words : (answer : ℕ) (words section : List ℕ) → (answer ≡ delivered → ⊥) → remembers words answer ≡ true
+    → wordsAfter answer words section ≡ put 0 noMarks words
+unfolding wordsAfter if_then_else_
+forgotten-words answer words section not2 h =
+    rw h (ap (λ (m : Memory). written m words) (forgets answer words section not2 h))
+
+pub words-stay : (answer : ℕ) (words section : List ℕ) → remembers words answer ≡ false → wordsAfter answer words section ≡ words
+unfolding wordsAfter
+words-stay answer words section h = test-fails _ _ _ h
+
+module _ (form : Form) (words bytes : List ℕ) (isOnce : form ≡ Form.Once) where
+  pub repeated-if-agreed : agree words (labelOf bytes) ≡ true
+      → repeats form (memoryIn words) bytes ≡ marked (memoryIn words .marks) (labelOf bytes .«section_number»)
+  unfolding repeats
+  repeated-if-agreed h = rw isOnce (test-holds _ _ _ (agreed-parts words (labelOf bytes) h .1))
+
+  pub not-repeated : agree words (labelOf bytes) ≡ false → repeats form (memoryIn words) bytes ≡ false
+  unfolding repeats memoryIn
+  not-repeated h =
+      either-way _ _ _ _ h (λ five other. rw isOnce (test-fails _ _ _ other))
+      (λ few f. rw (test-holds _ noMemory _ (ap not few)) (nothing-repeats form bytes))

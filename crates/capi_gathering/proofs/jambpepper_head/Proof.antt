@@ -1,14 +1,12 @@
 -- `capi_gathering::jambpepper_head` meets its contract: the step of the reader that is named, or the checks' refusal. Assumes nothing.
-use mathlib.Core.Path.{sym, ap, _∙_}
 use Prim.Native.Nat.{ℕ}
-use mathlib.Core.List.{List}
+use mathlib.Core.Path.{sym, ap, _∙_}
 use native.Mathlib.Omega.{arith}
 use denote.Ref.{now}
-use Rattle.fields.proofs.Choices.{test-fails}
-use Rattle.delivered.proofs.Parts.{part-of}
-use Rattle.memory_words.specs.Words.{wordsAfter}
 use Rattle.reader.specs.Head.{headOf}
+use Rattle.reader.proofs.Forms.{head-form}
 use Rattle.reader.proofs.MemoryByAnswer.{inThePacket, head-by-answer}
+use Rattle.memory_words.proofs.Words.{words-stay}
 use Rattle.capi_gathering.proofs.States.{named-parts, worked-as-named, head-section-fits, refused-as-unnamed}
 use borrow.Author.Needs.{needs}
 use Rattle.capi_gathering.proofs.jambpepper_head.Statement.{statement}
@@ -31,28 +29,10 @@ step-for-c-requires c κs = search needs
 remembers-requires : tie.Need-remembers-requires
 remembers-requires c κs = search needs
 
-cast-start : tie.Need-cast-start
-cast-start c = search needs
-
-cast-end : tie.Need-cast-end
-cast-end c = search needs
-
-add-end : tie.Need-add-end
-add-end c = search needs
-
-sub-remember : tie.Need-sub-remember
-sub-remember c = search needs
-
-part-remember-start : tie.Need-part-remember-start
-part-remember-start c = search needs
-
-part-remember-end : tie.Need-part-remember-end
-part-remember-end c =
-    let step = c .before .before .before .before .before .before .before .before .before .before .head-with .result in
-    omega (arith, head-section-fits _ _ _ step _ (c .before .before .before .before .before .before .before .before .before .before .head-with .ensures))
-
-remember-requires : tie.Need-remember-requires
-remember-requires c κs = search needs
+remember-at-requires : tie.Need-remember-at-requires
+remember-at-requires c κs =
+    let step = c .before .before .before .before .before .before .before .head-with .result in
+    omega (arith, head-section-fits _ _ _ step _ (c .before .before .before .before .before .before .before .head-with .ensures))
 
 same-length : tie.Need-same-length
 same-length c = search needs
@@ -62,14 +42,11 @@ same-length-2 c = search needs
 
 returns : tie.Need-returns
 returns c =
-    let a = c .before .before .before .before .before .before .before .before .before .before .before .before .before .before .before .before .before .before .before .before .before .before .before .before .args in
-    let step = c .before .before .before .before .before .before .before .before .before .before .before .before .before .before .head-with .result in
-    worked-as-named (a .reader) (now (a .memory)) (now (a .packet)) (now (a .buffer)) _ (c .before .before .before .before .before .before .before .before .before .before .before .before .before .before .before .before .before .gathering-from-c .ensures) step _
-    headOf (c .before .before .before .before .before .before .before .before .before .before .before .before .before .before .head-with .ensures) (sym (c .before .before .before .before .before .before .before .before .before .before .before .before .before .before .before .before .before .before .before .names-reader .ensures)
-    ∙ c .before .before .before .before .before .before .before .before .before .before .before .before .before .before .before .before .before .before .if1 .taken) (inThePacket (now (a .packet))) (head-by-answer _ _ _) _ (c .before .before .before .before .before .before .before .before .before .before .before .step-for-c .ensures)
-    _ (c .before .before .remember .ensures
-    ∙ ap (λ (section : List ℕ). wordsAfter (step .answer) (step .gathering .form) (now (a .memory)) section)
-    (part-of (now (a .packet)) (step .place .start) (step .place .len)))
+    let a = c .before .before .before .before .before .before .before .before .before .before .before .before .before .before .before .before .before .before .before .before .args in
+    let step = c .before .before .before .before .before .before .before .before .before .before .head-with .result in
+    worked-as-named (a .reader) (now (a .memory)) (now (a .packet)) (now (a .buffer)) _ (c .before .before .before .before .before .before .before .before .before .before .before .before .before .gathering-from-c .ensures) step _ headOf
+    (c .before .before .before .before .before .before .before .before .before .before .head-with .ensures) (sym (c .before .before .before .before .before .before .before .before .before .before .before .before .before .before .before .names-reader .ensures) ∙ c .before .before .before .before .before .before .before .before .before .before .before .before .before .before .if1 .taken) (inThePacket (now (a .packet))) (head-by-answer _ _ _) (head-form _ _ _) _ (c .before .before .before .before .before .before .before .step-for-c .ensures) _
+    (c .before .before .remember-at .ensures)
 
 same-length-3 : tie.Need-same-length-3
 same-length-3 c = search needs
@@ -78,14 +55,12 @@ same-length-4 : tie.Need-same-length-4
 same-length-4 c = search needs
 
 returns-2 : tie.Need-returns-2
-unfolding wordsAfter
 returns-2 c =
     let a = c .before .before .before .before .before .before .before .before .before .before .before .before .before .before .before .before .args in
     let step = c .before .before .before .before .before .before .head-with .result in
-    worked-as-named (a .reader) (now (a .memory)) (now (a .packet)) (now (a .buffer)) _ (c .before .before .before .before .before .before .before .before .before .gathering-from-c .ensures) step _
-    headOf (c .before .before .before .before .before .before .head-with .ensures) (sym (c .before .before .before .before .before .before .before .before .before .before .before .names-reader .ensures)
-    ∙ c .before .before .before .before .before .before .before .before .before .before .if1 .taken) (inThePacket (now (a .packet))) (head-by-answer _ _ _) _ (c .before .before .before .step-for-c .ensures)
-    _ (sym (test-fails _ _ _ (sym (c .before .remembers .ensures) ∙ c .if2 .left)))
+    worked-as-named (a .reader) (now (a .memory)) (now (a .packet)) (now (a .buffer)) _ (c .before .before .before .before .before .before .before .before .before .gathering-from-c .ensures) step _ headOf
+    (c .before .before .before .before .before .before .head-with .ensures) (sym (c .before .before .before .before .before .before .before .before .before .before .before .names-reader .ensures) ∙ c .before .before .before .before .before .before .before .before .before .before .if1 .taken) (inThePacket (now (a .packet))) (head-by-answer _ _ _) (head-form _ _ _) _ (c .before .before .before .step-for-c .ensures) _
+    (sym (words-stay (step .answer) (now (a .memory)) _ (sym (c .before .remembers .ensures) ∙ c .if2 .left)))
 
 refused-for-c-requires : tie.Need-refused-for-c-requires
 refused-for-c-requires c κs = search needs
@@ -106,13 +81,7 @@ jambpepper-head-spec =
     head-with-requires
     step-for-c-requires
     remembers-requires
-    cast-start
-    cast-end
-    add-end
-    sub-remember
-    part-remember-start
-    part-remember-end
-    remember-requires
+    remember-at-requires
     same-length
     same-length-2
     returns

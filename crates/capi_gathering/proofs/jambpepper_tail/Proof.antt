@@ -1,12 +1,12 @@
 -- `capi_gathering::jambpepper_tail` meets its contract: the step of the reader that is named, or the checks' refusal. Assumes nothing.
-use mathlib.Core.Path.{sym, _∙_}
+use Prim.Native.Nat.{ℕ}
+use mathlib.Core.Path.{sym, ap, _∙_}
 use native.Mathlib.Omega.{arith}
-use lib.Seq.{length-take-le}
 use denote.Ref.{now}
-use Rattle.fields.proofs.Choices.{test-fails}
-use Rattle.memory_words.specs.Words.{wordsAfter}
 use Rattle.reader.specs.Tail.{tailOf}
+use Rattle.reader.proofs.Forms.{tail-form}
 use Rattle.reader.proofs.MemoryByAnswer.{inTheBuffer, tail-by-answer}
+use Rattle.memory_words.proofs.Words.{words-stay}
 use Rattle.capi_gathering.proofs.States.{named-parts, worked-as-named, tail-section-fits, refused-as-unnamed}
 use borrow.Author.Needs.{needs}
 use Rattle.capi_gathering.proofs.jambpepper_tail.Statement.{statement}
@@ -29,21 +29,10 @@ step-for-c-requires c κs = search needs
 remembers-requires : tie.Need-remembers-requires
 remembers-requires c κs = search needs
 
-cast-end : tie.Need-cast-end
-cast-end c = search needs
-
-slice-reshare-prefix-remember : tie.Need-slice-reshare-prefix-remember
-slice-reshare-prefix-remember c =
-    let step = c .before .before .before .before .before .before .before .before .before .tail-with .result in
-    omega (arith, tail-section-fits _ _ _ step _ (c .before .before .before .before .before .before .before .before .before .tail-with .ensures))
-
-slice-aggregate-remember : tie.Need-slice-aggregate-remember
-slice-aggregate-remember c =
-    let step = c .before .before .before .before .before .before .before .before .before .before .tail-with .result in
-    sym (length-take-le _ _ (omega (arith, tail-section-fits _ _ _ step _ (c .before .before .before .before .before .before .before .before .before .before .tail-with .ensures))))
-
-remember-requires : tie.Need-remember-requires
-remember-requires c κs = search needs
+remember-at-requires : tie.Need-remember-at-requires
+remember-at-requires c κs =
+    let step = c .before .before .before .before .before .before .before .before .tail-with .result in
+    omega (arith, tail-section-fits _ _ _ step _ (c .before .before .before .before .before .before .before .before .tail-with .ensures))
 
 same-length : tie.Need-same-length
 same-length c = search needs
@@ -53,12 +42,11 @@ same-length-2 c = search needs
 
 returns : tie.Need-returns
 returns c =
-    let a = c .before .before .before .before .before .before .before .before .before .before .before .before .before .before .before .before .before .before .before .before .before .before .before .args in
-    let step = c .before .before .before .before .before .before .before .before .before .before .before .before .before .tail-with .result in
-    worked-as-named (a .reader) (now (a .memory)) (now (a .packet)) (now (a .buffer)) _ (c .before .before .before .before .before .before .before .before .before .before .before .before .before .before .before .before .gathering-from-c .ensures) step _
-    tailOf (c .before .before .before .before .before .before .before .before .before .before .before .before .before .tail-with .ensures) (sym (c .before .before .before .before .before .before .before .before .before .before .before .before .before .before .before .before .before .before .names-reader .ensures)
-    ∙ c .before .before .before .before .before .before .before .before .before .before .before .before .before .before .before .before .before .if1 .taken) inTheBuffer (tail-by-answer _ _ _) _ (c .before .before .before .before .before .before .before .before .before .before .step-for-c .ensures)
-    _ (c .before .before .remember .ensures)
+    let a = c .before .before .before .before .before .before .before .before .before .before .before .before .before .before .before .before .before .before .before .before .before .args in
+    let step = c .before .before .before .before .before .before .before .before .before .before .before .tail-with .result in
+    worked-as-named (a .reader) (now (a .memory)) (now (a .packet)) (now (a .buffer)) _ (c .before .before .before .before .before .before .before .before .before .before .before .before .before .before .gathering-from-c .ensures) step _ tailOf
+    (c .before .before .before .before .before .before .before .before .before .before .before .tail-with .ensures) (sym (c .before .before .before .before .before .before .before .before .before .before .before .before .before .before .before .before .names-reader .ensures) ∙ c .before .before .before .before .before .before .before .before .before .before .before .before .before .before .before .if1 .taken) inTheBuffer (tail-by-answer _ _ _) (tail-form _ _ _) _ (c .before .before .before .before .before .before .before .before .step-for-c .ensures) _
+    (c .before .before .remember-at .ensures)
 
 same-length-3 : tie.Need-same-length-3
 same-length-3 c = search needs
@@ -67,14 +55,12 @@ same-length-4 : tie.Need-same-length-4
 same-length-4 c = search needs
 
 returns-2 : tie.Need-returns-2
-unfolding wordsAfter
 returns-2 c =
     let a = c .before .before .before .before .before .before .before .before .before .before .before .before .before .before .before .before .args in
     let step = c .before .before .before .before .before .before .tail-with .result in
-    worked-as-named (a .reader) (now (a .memory)) (now (a .packet)) (now (a .buffer)) _ (c .before .before .before .before .before .before .before .before .before .gathering-from-c .ensures) step _
-    tailOf (c .before .before .before .before .before .before .tail-with .ensures) (sym (c .before .before .before .before .before .before .before .before .before .before .before .names-reader .ensures)
-    ∙ c .before .before .before .before .before .before .before .before .before .before .if1 .taken) inTheBuffer (tail-by-answer _ _ _) _ (c .before .before .before .step-for-c .ensures)
-    _ (sym (test-fails _ _ _ (sym (c .before .remembers .ensures) ∙ c .if2 .left)))
+    worked-as-named (a .reader) (now (a .memory)) (now (a .packet)) (now (a .buffer)) _ (c .before .before .before .before .before .before .before .before .before .gathering-from-c .ensures) step _ tailOf
+    (c .before .before .before .before .before .before .tail-with .ensures) (sym (c .before .before .before .before .before .before .before .before .before .before .before .names-reader .ensures) ∙ c .before .before .before .before .before .before .before .before .before .before .if1 .taken) inTheBuffer (tail-by-answer _ _ _) (tail-form _ _ _) _ (c .before .before .before .step-for-c .ensures) _
+    (sym (words-stay (step .answer) (now (a .memory)) _ (sym (c .before .remembers .ensures) ∙ c .if2 .left)))
 
 refused-for-c-requires : tie.Need-refused-for-c-requires
 refused-for-c-requires c κs = search needs
@@ -95,10 +81,7 @@ jambpepper-tail-spec =
     tail-with-requires
     step-for-c-requires
     remembers-requires
-    cast-end
-    slice-reshare-prefix-remember
-    slice-aggregate-remember
-    remember-requires
+    remember-at-requires
     same-length
     same-length-2
     returns

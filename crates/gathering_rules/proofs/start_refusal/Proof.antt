@@ -1,9 +1,10 @@
--- `gathering_rules::start_refusal` meets its contract: the header, and then each test in its order. Assumes nothing.
+-- `gathering_rules::start_refusal` meets its contract: no header, what the header refuses, or what is remembered. Assumes nothing.
 use mathlib.Core.Path.{sym, ap, _∙_}
-use borrow.Author.Tests.{lt-ltb, le-ltb, not-true, not-false}
 use Rattle.fields.proofs.Choices.{test-holds, test-fails}
+use denote.Ref.{now}
 use Rattle.psi.specs.Header.{headerSays}
-use Rattle.gathering_rules.proofs.Starts.{start-without-header, start-of-other-syntax, start-of-its-syntax}
+use Rattle.memory_words.specs.Words.{memoryIn}
+use Rattle.gathering_rules.proofs.Starts.{start-without-header, three-bytes, start-refused-by-header, start-left-to-memory}
 use borrow.Author.Needs.{needs}
 use Rattle.gathering_rules.proofs.start_refusal.Statement.{statement}
 use Rattle.gathering_rules.proofs.start_refusal.Tie as tie
@@ -22,68 +23,31 @@ returns c =
     let known = sym (ap headerSays (c .enum-told .given .1)) ∙ c .before .before .header .ensures in
     sym (start-without-header _ _ _ (c .enum-told .given .0 .0) known)
 
-takes-syntax-requires : tie.Need-takes-syntax-requires
-takes-syntax-requires c κs = search needs
+header-refusal-requires : tie.Need-header-refusal-requires
+header-refusal-requires c κs =
+    let known = sym (ap headerSays (c .before .header2 .given .1)) ∙ c .before .before .before .header .ensures in
+    three-bytes (c .before .before .before .before .before .before .args .form) (memoryIn (now (c .before .before .before .before .before .before .args .memory))) _ _ known
 
 returns-2 : tie.Need-returns-2
 returns-2 c =
-    let known = sym (ap headerSays (c .before .before .before .header2 .given .1))
-    ∙ c .before .before .before .before .before .header .ensures in
-    sym (start-of-other-syntax _ _ _ _ known (sym (c .before .takes-syntax .ensures) ∙ not-true _ (c .if1 .taken)))
-
-least-held-requires : tie.Need-least-held-requires
-least-held-requires c κs = search needs
-
-cast-if2 : tie.Need-cast-if2
-cast-if2 c = search needs
-
-returns-3 : tie.Need-returns-3
-returns-3 c =
-    let known = sym (ap headerSays (c .before .before .before .before .before .header2 .given .1))
-    ∙ c .before .before .before .before .before .before .before .header .ensures in
-    sym (start-of-its-syntax _ _ _ _ known (sym (c .before .before .before .takes-syntax .ensures)
-    ∙ not-false _ (c .before .before .if1 .left))
-    ∙ test-holds _ _ _ (rw (c .before .least-held .ensures) at (lt-ltb _ _ (c .if2 .taken))))
-
-returns-4 : tie.Need-returns-4
-returns-4 c =
-    let known = sym (ap headerSays (c .before .before .before .before .before .before .before .header2 .given .1))
-    ∙ c .before .before .before .before .before .before .before .before .before .header .ensures in
-    sym (start-of-its-syntax _ _ _ _ known (sym (c .before .before .before .before .before .takes-syntax .ensures)
-    ∙ not-false _ (c .before .before .before .before .if1 .left))
-    ∙ test-fails _ _ _ (rw (c .before .before .before .least-held .ensures) at (le-ltb _ _ (c .before .before .if2 .left)))
-    ∙ test-holds _ _ _ (lt-ltb _ _ (c .if3 .taken)))
+    let known = sym (ap headerSays (c .before .before .before .header2 .given .1)) ∙ c .before .before .before .before .before .header .ensures in
+    c .before .header-refusal .ensures
+    ∙ sym (start-refused-by-header _ _ _ _ known (λ none. c .if1 .taken (c .before .header-refusal .ensures ∙ none)))
 
 repeats-requires : tie.Need-repeats-requires
 repeats-requires c κs = search needs
 
-returns-5 : tie.Need-returns-5
-returns-5 c =
-    let known = sym
-    (ap headerSays (c .before .before .before .before .before .before .before .before .before .header2 .given .1))
-    ∙ c .before .before .before .before .before .before .before .before .before .before .before .header .ensures in
-    sym (start-of-its-syntax _ _ _ _ known
-    (sym (c .before .before .before .before .before .before .before .takes-syntax .ensures)
-    ∙ not-false _ (c .before .before .before .before .before .before .if1 .left))
-    ∙ test-fails _ _ _
-    (rw (c .before .before .before .before .before .least-held .ensures) at
-    (le-ltb _ _ (c .before .before .before .before .if2 .left)))
-    ∙ test-fails _ _ _ (le-ltb _ _ (c .before .before .if3 .left))
-    ∙ test-holds _ _ _ (sym (c .before .repeats .ensures) ∙ c .if4 .taken))
+returns-3 : tie.Need-returns-3
+returns-3 c =
+    let known = sym (ap headerSays (c .before .before .before .before .before .header2 .given .1)) ∙ c .before .before .before .before .before .before .before .header .ensures in
+    sym (start-left-to-memory _ _ _ _ known (sym (c .before .before .before .header-refusal .ensures) ∙ c .before .before .if1 .left)
+    ∙ test-holds _ _ _ (sym (c .before .repeats .ensures) ∙ c .if2 .taken))
 
-returns-6 : tie.Need-returns-6
-returns-6 c =
-    let known = sym
-    (ap headerSays (c .before .before .before .before .before .before .before .before .before .header2 .given .1))
-    ∙ c .before .before .before .before .before .before .before .before .before .before .before .header .ensures in
-    sym (start-of-its-syntax _ _ _ _ known
-    (sym (c .before .before .before .before .before .before .before .takes-syntax .ensures)
-    ∙ not-false _ (c .before .before .before .before .before .before .if1 .left))
-    ∙ test-fails _ _ _
-    (rw (c .before .before .before .before .before .least-held .ensures) at
-    (le-ltb _ _ (c .before .before .before .before .if2 .left)))
-    ∙ test-fails _ _ _ (le-ltb _ _ (c .before .before .if3 .left))
-    ∙ test-fails _ _ _ (sym (c .before .repeats .ensures) ∙ c .if4 .left))
+returns-4 : tie.Need-returns-4
+returns-4 c =
+    let known = sym (ap headerSays (c .before .before .before .before .before .header2 .given .1)) ∙ c .before .before .before .before .before .before .before .header .ensures in
+    sym (start-left-to-memory _ _ _ _ known (sym (c .before .before .before .header-refusal .ensures) ∙ c .before .before .if1 .left)
+    ∙ test-fails _ _ _ (sym (c .before .repeats .ensures) ∙ c .if2 .left))
 
 pub start-refusal-spec : {M : Type 1} → statement M
 start-refusal-spec =
@@ -93,12 +57,8 @@ start-refusal-spec =
     enum-known-header
     enum-told
     returns
-    takes-syntax-requires
+    header-refusal-requires
     returns-2
-    least-held-requires
-    cast-if2
-    returns-3
-    returns-4
     repeats-requires
-    returns-5
-    returns-6)
+    returns-3
+    returns-4)

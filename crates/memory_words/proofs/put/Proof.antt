@@ -1,18 +1,15 @@
--- `memory_words::write` meets its contract: five words, or nothing is written. Assumes nothing.
+-- `memory_words::put` meets its contract: five words, or nothing is written. Assumes nothing.
 use mathlib.Core.Path.{sym, _∙_}
 use native.Mathlib.Omega.{arith}
 use lib.ListN.{length-set}
 use borrow.Author.Tests.{eq-eqb, ne-eqb}
 use denote.Ref.{now}
 use Rattle.fields.proofs.Choices.{test-holds, test-fails}
-use Rattle.memory_words.specs.Words.{written}
+use Rattle.memory_words.specs.Words.{put}
 use Rattle.memory_words.proofs.Words.{five-written}
 use borrow.Author.Needs.{needs}
-use Rattle.memory_words.proofs.write.Statement.{statement}
-use Rattle.memory_words.proofs.write.Tie as tie
-
-numbers-of-requires : tie.Need-numbers-of-requires
-numbers-of-requires c κs = search needs
+use Rattle.memory_words.proofs.put.Statement.{statement}
+use Rattle.memory_words.proofs.put.Tie as tie
 
 slice-write-words : tie.Need-slice-write-words
 slice-write-words c = search needs
@@ -45,21 +42,18 @@ same-length : tie.Need-same-length
 same-length c = search needs
 
 returns : tie.Need-returns
-unfolding written
+unfolding put
 returns c =
-    let a = c .before .before .before .before .before .before .before .before .args in
-    simp (c .before .before .before .before .numbers-of .ensures) (five-written (now (a .words)) (c .before .before .before .before .before .if1 .taken) _ _ _ _ _)
-    ∙ sym (test-holds _ _ _ (eq-eqb _ _ (c .before .before .before .before .before .if1 .taken)))
+    five-written (now (c .before .before .before .before .before .args .words)) (c .before .before .before .before .if1 .taken) _ _ _ _ _ ∙ sym (test-holds _ _ _ (eq-eqb _ _ (c .before .before .before .before .if1 .taken)))
 
 returns-2 : tie.Need-returns-2
-unfolding written
+unfolding put
 returns-2 c = sym (test-fails _ _ _ (ne-eqb _ _ (c .if1 .left)))
 
-pub write-spec : {M : Type 1} → statement M
-write-spec =
+pub put-spec : {M : Type 1} → statement M
+put-spec =
     tie.close
     (tie.spec
-    numbers-of-requires
     slice-write-words
     element-copy-out-words
     slice-write-words-2
