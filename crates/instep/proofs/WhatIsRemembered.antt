@@ -1,13 +1,13 @@
 -- What ONCE remembers: a section that was refused or damaged leaves it as it was, and what is marked was delivered. Assumes nothing.
 use Prim.Native.Nat.{ℕ, _+_, _≤_}
 use mathlib.Core.Path.{_≡_, refl, sym, ap, _∙_, subst}
-use mathlib.Core.Bool.{Bool, true, false, not, true≢false, false≢true}
+use mathlib.Core.Bool.{true, false, not, true≢false, false≢true}
 use mathlib.Core.List.{List, [], _∷_, _++_, append-nil, append-assoc}
 use native.Mathlib.Omega.{arith}
 use lib.ListN.{length, take, drop}
 use borrow.Author.Tests.{eqb-true, eqb-false, eq-eqb}
-use Rattle.fields.specs.Choice.{if_then_else_, _is_}
-use Rattle.fields.proofs.Choices.{test-holds, test-fails, of-both, of-either, either-way, by-test, and-holds}
+use Rattle.fields.specs.Choice.{_is_}
+use Rattle.fields.proofs.Choices.{test-holds, test-fails, of-both, of-either, either-way, by-test}
 use Rattle.packet.specs.Payload.{payloadOf}
 use Rattle.marks.specs.Marks.{fourWords}
 use Rattle.marks.proofs.Marking.{none-marked}
@@ -15,8 +15,8 @@ use Rattle.labels.specs.Label.{labelOf}
 use Rattle.labels.specs.declared.Label.{Label}
 use Rattle.memory.specs.declared.Form.{Form}
 use Rattle.memory.specs.declared.Memory.{Memory}
-use Rattle.memory.specs.Memory.{sameFlag, agrees, onDelivery, afterAnswer}
-use Rattle.memory.proofs.Remembering.{four-words, marked-on-delivery, memory-stays}
+use Rattle.memory.specs.Memory.{agrees, onDelivery, afterAnswer}
+use Rattle.memory.proofs.Remembering.{four-words, agreeing, marked-on-delivery, memory-stays}
 use Rattle.gathering_rules.specs.Checks.{bufferLength}
 use Rattle.gathering_rules.proofs.Answering.{checked-is-one-of, start-refusal-is-one-of}
 use Rattle.delivered.specs.declared.Place.{Place}
@@ -268,14 +268,8 @@ unfolding NoneForgets
 delivered-now steps step isDelivered =
     record { before = steps; delivery = step; later = []; lies = refl; delivers = isDelivered; labelled = refl; since = tt }
 
--- the memory's four agree with a label's
-same-flags : (a b : Bool) → sameFlag a b ≡ true → a ≡ b
-unfolding if_then_else_
-same-flags true b h = sym h
-same-flags false true h = absurd (false≢true h)
-same-flags false false h = refl
-
-agreeing : (memory : Memory) (label : Label) (number : ℕ) → agrees memory label ≡ true
+-- where the memory's four agree with a label's, they are the label's
+labelled-as : (memory : Memory) (label : Label) (number : ℕ) → agrees memory label ≡ true
     → labelIn memory number
     ≡ record {
       «table_id» = label .«table_id»;
@@ -284,19 +278,9 @@ agreeing : (memory : Memory) (label : Label) (number : ℕ) → agrees memory la
       «current_next_indicator» = label .«current_next_indicator»;
       «section_number» = number;
     }
-unfolding agrees
-agreeing memory label number h =
-    let behind-table-id = and-holds _ _ h in
-    let behind-id = and-holds _ _ (behind-table-id .1) in
-    let behind-version = and-holds _ _ (behind-id .1) in
-    ap (λ (n : ℕ). made n (memory .id) (memory .version) (memory .«current_next_indicator»)) (eqb-true _ _ (behind-table-id .0))
-    ∙ ap (λ (n : ℕ). made (label .«table_id») n (memory .version) (memory .«current_next_indicator»)) (eqb-true _ _ (behind-id .0))
-    ∙ ap (λ (n : ℕ). made (label .«table_id») (label .id) n (memory .«current_next_indicator»)) (eqb-true _ _ (behind-version .0))
-    ∙ ap (made (label .«table_id») (label .id) (label .version)) (same-flags _ _ (behind-version .1))
-  where
-    made : ℕ → ℕ → ℕ → Bool → Label
-    made tableId id version current =
-        record { «table_id» = tableId; id = id; version = version; «current_next_indicator» = current; «section_number» = number }
+labelled-as memory label number h =
+    let same = agreeing memory label h in
+    rw (same .tableId, same .id, same .version, same .current) refl
 
 module _ (steps : List Seen) (step : Seen) (memory : Memory) (four : fourWords (memory .marks) ≡ true) (were : WereDelivered steps memory) where
   were-on-delivery : step .step .answer ≡ 2 → WereDelivered (steps ++ step ∷ []) (onDelivery Form.Once memory (step .section))
@@ -307,7 +291,7 @@ module _ (steps : List Seen) (step : Seen) (memory : Memory) (four : fourWords (
       (λ its f. subst (λ (n : ℕ). DeliveredSince (steps ++ step ∷ []) (labelIn (onDelivery Form.Once memory (step .section)) n))
       (sym (eqb-true _ _ its)) (delivered-now steps step isDelivered))
       (λ other f. either-way _ _ _ _ f
-      (λ same before. subst (DeliveredSince (steps ++ step ∷ [])) (agreeing memory label number same)
+      (λ same before. subst (DeliveredSince (steps ++ step ∷ [])) (labelled-as memory label number same)
       (delivered-before steps step _ (λ e. eqb-false 2 9 refl (sym isDelivered ∙ e)) (λ e. eqb-false 2 10 refl (sym isDelivered ∙ e))
       (were number before)))
       (λ another never. absurd (false≢true never)))

@@ -7,10 +7,11 @@ ghost use Rattle.memory_words.specs.Words.{memoryIn};
 ghost use lib.ListN.{length, drop};
 ghost use Rattle.fields.specs.Laid.{laid};
 ghost use Rattle.packet.specs.Header.{size};
+ghost use Rattle.answers.specs.Numbers.{bytesKept};
 ghost use Rattle.psi.specs.Header.{wanted};
 ghost use Rattle.gathering_rules.specs.Checks.{bufferLength};
 ghost use Rattle.reader.specs.State.{soundCounts, sound, fresh, gatheringOf};
-ghost use Rattle.reader.specs.Outcome.{outcome, inBuffer, inPacket};
+ghost use Rattle.reader.specs.Outcome.{outcome};
 ghost use Rattle.reader.specs.Gathering.{withMemory, idling, opening, answering, gathered, gatheredOf, withoutMemory, remembered};
 ghost use Rattle.reader.specs.Pointer.{pointerOf};
 ghost use Rattle.reader.specs.Whole.{whole};
@@ -73,26 +74,6 @@ pub enum Pointer {
     BeyondRest,
 }
 
-fn in_packet(start: u16, len: u16) -> Place
-    ensures { λ r. ⌜ r ≡ inPacket start len ⌝ }
-{
-    Place {
-        holder: Holder::Packet,
-        start,
-        len,
-    }
-}
-
-fn in_buffer(len: u16) -> Place
-    ensures { λ r. ⌜ r ≡ inBuffer len ⌝ }
-{
-    Place {
-        holder: Holder::Buffer,
-        start: 0,
-        len,
-    }
-}
-
 impl Reader {
     // The lent buffer's length.
     pub const BUFFER_SIZE: usize = Buffer::SIZE;
@@ -135,28 +116,6 @@ impl Reader {
 }
 
 impl Gathering {
-    fn idle(form: Form) -> Self
-        ensures { λ r. ⌜ r ≡ idling form ⌝ }
-    {
-        Gathering {
-            form,
-            is_open: false,
-            held: 0,
-            wanted: 0,
-        }
-    }
-
-    fn opened(form: Form, held: u16, wanted: u16) -> Self
-        ensures { λ r. ⌜ r ≡ opening form held wanted ⌝ }
-    {
-        Gathering {
-            form,
-            is_open: true,
-            held,
-            wanted,
-        }
-    }
-
     fn counts_are_sound(self) -> bool
         ensures { λ r. ⌜ r ≡ soundCounts self ⌝ }
     {
@@ -201,6 +160,36 @@ impl GatheringStep {
             },
             answer,
         }
+    }
+
+    // One that leaves the reader idle.
+    fn ended(answer: u8, form: Form) -> Self
+        ensures { λ r. ⌜ r ≡ answering answer (idling form) ⌝ }
+    {
+        GatheringStep::answered(
+            answer,
+            Gathering {
+                form,
+                is_open: false,
+                held: 0,
+                wanted: 0,
+            },
+        )
+    }
+
+    // One that leaves it open.
+    fn kept(form: Form, held: u16, wanted: u16) -> Self
+        ensures { λ r. ⌜ r ≡ answering bytesKept (opening form held wanted) ⌝ }
+    {
+        GatheringStep::answered(
+            Answer::BYTES_KEPT,
+            Gathering {
+                form,
+                is_open: true,
+                held,
+                wanted,
+            },
+        )
     }
 
     // The step of a reader that remembered this, and that delivered this section.
@@ -261,12 +250,17 @@ fn whole(form: Form, place: Place, section: &[u8]) -> GatheringStep
     let answer = verdict(form, section);
     if answer == Answer::DELIVERED {
         return GatheringStep {
-            gathering: Gathering::idle(form),
+            gathering: Gathering {
+                form,
+                is_open: false,
+                held: 0,
+                wanted: 0,
+            },
             place,
             answer: Answer::DELIVERED,
         };
     }
-    GatheringStep::answered(answer, Gathering::idle(form))
+    GatheringStep::ended(answer, form)
 }
 
 impl Gathering {
@@ -277,7 +271,7 @@ impl Gathering {
     {
         let form = self.form;
         if !self.is_open {
-            return GatheringStep::answered(Answer::NO_SECTION_OPEN, Gathering::idle(form));
+            return GatheringStep::ended(Answer::NO_SECTION_OPEN, form);
         }
         let held = self.held as usize;
         let wanted = self.wanted as usize;
@@ -285,13 +279,15 @@ impl Gathering {
         if bytes.len() < missing {
             lay(buffer, held, bytes);
             let more = (held + bytes.len()) as u16;
-            return GatheringStep::answered(
-                Answer::BYTES_KEPT,
-                Gathering::opened(form, more, self.wanted),
-            );
+            return GatheringStep::kept(form, more, self.wanted);
         }
         lay(buffer, held, &bytes[..missing]);
-        whole(form, in_buffer(self.wanted), &buffer[..wanted])
+        let place = Place {
+            holder: Holder::Buffer,
+            start: 0,
+            len: self.wanted,
+        };
+        whole(form, place, &buffer[..wanted])
     }
 
     // The tail step on a payload that starts there.
@@ -311,7 +307,7 @@ impl Gathering {
             }
             Pointer::BeyondRest => {
                 let form = self.form;
-                GatheringStep::answered(Answer::POINTER_BEYOND_REST, Gathering::idle(form))
+                GatheringStep::ended(Answer::POINTER_BEYOND_REST, form)
             }
         }
     }
@@ -366,13 +362,15 @@ fn begun(form: Form, bytes: &[u8], at: usize, buffer: &mut [u8]) -> GatheringSte
     let size = wanted(bytes);
     let end = size as usize;
     if end <= bytes.len() {
-        return whole(form, in_packet(at as u16, size), &bytes[..end]);
+        let place = Place {
+            holder: Holder::Packet,
+            start: at as u16,
+            len: size,
+        };
+        return whole(form, place, &bytes[..end]);
     }
     lay(buffer, 0, bytes);
-    GatheringStep::answered(
-        Answer::BYTES_KEPT,
-        Gathering::opened(form, bytes.len() as u16, size),
-    )
+    GatheringStep::kept(form, bytes.len() as u16, size)
 }
 
 // The bytes, which stand at `at` in the packet, start a section, or are refused.
@@ -384,7 +382,7 @@ fn started(form: Form, memory: &[u64], bytes: &[u8], at: usize, buffer: &mut [u8
     if refusal == 0 {
         return begun(form, bytes, at, buffer);
     }
-    GatheringStep::answered(refusal, Gathering::idle(form))
+    GatheringStep::ended(refusal, form)
 }
 
 impl Gathering {
@@ -406,9 +404,7 @@ impl Gathering {
                 let at = start + 1 + to;
                 started(form, memory, &packet[at..], at, buffer)
             }
-            Pointer::BeyondRest => {
-                GatheringStep::answered(Answer::POINTER_BEYOND_REST, Gathering::idle(form))
-            }
+            Pointer::BeyondRest => GatheringStep::ended(Answer::POINTER_BEYOND_REST, form),
         }
     }
 

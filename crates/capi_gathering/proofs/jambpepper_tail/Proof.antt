@@ -1,6 +1,5 @@
 -- `capi_gathering::jambpepper_tail` meets its contract: the step of the reader that is named, or the checks' refusal. Assumes nothing.
-use Prim.Native.Nat.{ℕ}
-use mathlib.Core.Path.{sym, ap, _∙_}
+use mathlib.Core.Path.{sym, _∙_}
 use native.Mathlib.Omega.{arith}
 use denote.Ref.{now}
 use Rattle.reader.specs.Tail.{tailOf}

@@ -3,7 +3,6 @@ use mathlib.Core.Path.{sym, ap, _∙_}
 use mathlib.Core.Bool.{not}
 use borrow.Author.Tests.{le-ltb}
 use Rattle.fields.proofs.Choices.{test-holds, test-fails}
-use Rattle.memory.specs.declared.Form.{Form}
 use Rattle.gathering_rules.specs.Start.{headerRefusal}
 use borrow.Author.Needs.{needs}
 use Rattle.gathering_rules.proofs.header_refusal.Statement.{statement}

@@ -1,6 +1,5 @@
 -- `gathering_rules::long_refusal` meets its contract: each test in its order. Assumes nothing.
-use mathlib.Core.Path.{sym, ap, _∙_}
-use mathlib.Core.Bool.{not}
+use mathlib.Core.Path.{sym, _∙_}
 use borrow.Author.Tests.{lt-ltb, le-ltb}
 use Rattle.fields.proofs.Choices.{test-holds, test-fails}
 use Rattle.gathering_rules.specs.Start.{headerRefusal}

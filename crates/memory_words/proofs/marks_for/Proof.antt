@@ -1,7 +1,6 @@
 -- `memory_words::marks_for` meets its contract: those of the memory, or none. Assumes nothing.
 use mathlib.Core.Path.{sym, ap, _∙_}
 use Rattle.memory.specs.declared.Memory.{Memory}
-use Rattle.memory.specs.Memory.{marksFor}
 use denote.Ref.{now}
 use Rattle.memory_words.proofs.Words.{marks-that-agree, marks-that-do-not}
 use borrow.Author.Needs.{needs}

@@ -14,14 +14,11 @@ wanted-requires c κs = search needs
 cast-end : tie.Need-cast-end
 cast-end c = search needs
 
-cast-in-packet : tie.Need-cast-in-packet
-cast-in-packet c = search needs
-
-in-packet-requires : tie.Need-in-packet-requires
-in-packet-requires c κs = search needs
+cast-t11 : tie.Need-cast-t11
+cast-t11 c = search needs
 
 slice-aggregate-whole : tie.Need-slice-aggregate-whole
-slice-aggregate-whole c = sym (length-take-le _ _ (c .before .before .if1 .taken))
+slice-aggregate-whole c = sym (length-take-le _ _ (c .before .if1 .taken))
 
 whole-requires : tie.Need-whole-requires
 whole-requires c κs = search needs
@@ -30,23 +27,19 @@ returns : tie.Need-returns
 unfolding begun if_then_else_
 returns c memory =
     simp (
-      ← c .before .before .before .before .wanted .ensures,
-      le-leb _ _ (c .before .before .before .if1 .taken),
-      ← c .before .before .in-packet .ensures,
+      ← c .before .before .before .wanted .ensures,
+      le-leb _ _ (c .before .before .if1 .taken),
       ← c .whole .ensures memory,
     )
 
 lay-requires : tie.Need-lay-requires
 lay-requires c κs = search needs
 
-cast-opened : tie.Need-cast-opened
-cast-opened c = search needs
+cast-kept : tie.Need-cast-kept
+cast-kept c = search needs
 
-opened-requires : tie.Need-opened-requires
-opened-requires c κs = search needs
-
-answered-requires : tie.Need-answered-requires
-answered-requires c κs = search needs
+kept-requires : tie.Need-kept-requires
+kept-requires c κs = search needs
 
 same-length : tie.Need-same-length
 same-length c = search needs
@@ -55,11 +48,10 @@ returns-2 : tie.Need-returns-2
 unfolding begun if_then_else_
 returns-2 c memory =
     simp (
-      ← c .before .before .before .before .before .before .before .wanted .ensures,
-      lt-leb _ _ (c .before .before .before .before .before .before .if1 .left),
-      ← c .before .opened .ensures,
-      ← c .answered .ensures,
-      ← c .before .before .before .before .lay .ensures,
+      ← c .before .before .before .before .before .before .wanted .ensures,
+      lt-leb _ _ (c .before .before .before .before .before .if1 .left),
+      ← c .kept .ensures,
+      ← c .before .before .before .lay .ensures,
     )
 
 pub begun-spec : {M : Type 1} → statement M
@@ -68,14 +60,12 @@ begun-spec =
     (tie.spec
     wanted-requires
     cast-end
-    cast-in-packet
-    in-packet-requires
+    cast-t11
     slice-aggregate-whole
     whole-requires
     returns
     lay-requires
-    cast-opened
-    opened-requires
-    answered-requires
+    cast-kept
+    kept-requires
     same-length
     returns-2)

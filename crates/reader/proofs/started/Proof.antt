@@ -31,30 +31,19 @@ returns c =
     )
     (c .before .before .begun .ensures _)
 
-idle-requires : tie.Need-idle-requires
-idle-requires c κs = search needs
-
-answered-requires : tie.Need-answered-requires
-answered-requires c κs = search needs
+ended-requires : tie.Need-ended-requires
+ended-requires c κs = search needs
 
 returns-2 : tie.Need-returns-2
 unfolding started if_then_else_
 returns-2 c =
     simp (
-      ← c .before .before .before .start-refusal .ensures,
-      ne-eqb _ _ (c .before .before .if1 .left),
-      ← c .before .idle .ensures,
-      ← c .answered .ensures,
+      ← c .before .before .start-refusal .ensures,
+      ne-eqb _ _ (c .before .if1 .left),
+      ← c .ended .ensures,
     )
 
 pub started-spec : {M : Type 1} → statement M
 started-spec =
     tie.close
-    (tie.spec
-    start-refusal-requires
-    begun-requires
-    same-length
-    returns
-    idle-requires
-    answered-requires
-    returns-2)
+    (tie.spec start-refusal-requires begun-requires same-length returns ended-requires returns-2)

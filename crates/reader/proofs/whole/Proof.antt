@@ -9,26 +9,18 @@ use Rattle.reader.proofs.whole.Tie as tie
 verdict-requires : tie.Need-verdict-requires
 verdict-requires c κs = search needs
 
-idle-requires : tie.Need-idle-requires
-idle-requires c κs = search needs
-
 returns : tie.Need-returns
 unfolding whole if_then_else_
-returns c memory = simp (← c .before .before .verdict .ensures, eq-eqb _ _ (c .before .if1 .taken), c .idle .ensures)
+returns c memory = simp (← c .before .verdict .ensures, eq-eqb _ _ (c .if1 .taken))
 
-idle-requires-2 : tie.Need-idle-requires-2
-idle-requires-2 c κs = search needs
-
-answered-requires : tie.Need-answered-requires
-answered-requires c κs = search needs
+ended-requires : tie.Need-ended-requires
+ended-requires c κs = search needs
 
 returns-2 : tie.Need-returns-2
 unfolding whole if_then_else_
 returns-2 c memory =
-    simp (← c .before .before .before .verdict .ensures, ne-eqb _ _ (c .before .before .if1 .left), ← c .before .idle2 .ensures)
-    (c .answered .ensures)
+    simp (← c .before .before .verdict .ensures, ne-eqb _ _ (c .before .if1 .left))
+    (c .ended .ensures)
 
 pub whole-spec : {M : Type 1} → statement M
-whole-spec =
-    tie.close
-    (tie.spec verdict-requires idle-requires returns idle-requires-2 answered-requires returns-2)
+whole-spec = tie.close (tie.spec verdict-requires returns ended-requires returns-2)

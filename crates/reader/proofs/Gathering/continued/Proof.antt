@@ -5,25 +5,22 @@ use native.Mathlib.Omega.{arith}
 use lib.Seq.{length-take-le}
 use borrow.Author.Tests.{not-true, not-false}
 use denote.Ref.{now}
-use Rattle.reader.specs.Gathering.{withMemory, answering, gathered, gatheredOf}
+use Rattle.reader.specs.Gathering.{withMemory, gathered, gatheredOf}
 use Rattle.reader.proofs.Soundness.{open-counts}
 use Rattle.reader.proofs.Continuing.{continued-idle, continued-short, continued-whole}
 use borrow.Author.Needs.{needs}
 use Rattle.reader.proofs.Gathering.continued.Statement.{statement}
 use Rattle.reader.proofs.Gathering.continued.Tie as tie
 
-idle-requires : tie.Need-idle-requires
-idle-requires c κs = search needs
-
-answered-requires : tie.Need-answered-requires
-answered-requires c κs = search needs
+ended-requires : tie.Need-ended-requires
+ended-requires c κs = search needs
 
 returns : tie.Need-returns
 returns c memory =
-    let a = c .before .before .before .before .before .before .args in
-    ap (λ step. gathered step (now (a .buffer))) (c .answered .ensures ∙ ap (answering 15) (c .before .idle .ensures))
+    let a = c .before .before .before .before .before .args in
+    ap (λ step. gathered step (now (a .buffer))) (c .ended .ensures)
     ∙ sym (ap gatheredOf
-    (continued-idle (withMemory memory (a .self)) (now (a .bytes)) (now (a .buffer)) (not-true _ (c .before .before .if1 .taken))))
+    (continued-idle (withMemory memory (a .self)) (now (a .bytes)) (now (a .buffer)) (not-true _ (c .before .if1 .taken))))
 
 cast-held : tie.Need-cast-held
 cast-held c = search needs
@@ -49,22 +46,19 @@ add-more c = search needs
 cast-more : tie.Need-cast-more
 cast-more c = search needs
 
-opened-requires : tie.Need-opened-requires
-opened-requires c κs = search needs
-
-answered-requires-2 : tie.Need-answered-requires-2
-answered-requires-2 c κs = search needs
+kept-requires : tie.Need-kept-requires
+kept-requires c κs = search needs
 
 same-length : tie.Need-same-length
 same-length c = search needs
 
 returns-2 : tie.Need-returns-2
 returns-2 c memory =
-    let a = c .before .before .before .before .before .before .before .before .before .before .before .before .before .args in
-    let isOpen = not-false _ (c .before .before .before .before .before .before .before .before .before .if1 .left) in
-    ap₂ gathered (c .answered2 .ensures ∙ ap (answering 1) (c .before .opened .ensures)) (c .before .before .before .before .lay .ensures)
+    let a = c .before .before .before .before .before .before .before .before .before .before .before .before .args in
+    let isOpen = not-false _ (c .before .before .before .before .before .before .before .before .if1 .left) in
+    ap₂ gathered (c .kept .ensures) (c .before .before .before .lay .ensures)
     ∙ sym (ap gatheredOf
-    (continued-short (withMemory memory (a .self)) (now (a .bytes)) (now (a .buffer)) isOpen (c .before .before .before .before .before .before .if2 .taken)))
+    (continued-short (withMemory memory (a .self)) (now (a .bytes)) (now (a .buffer)) isOpen (c .before .before .before .before .before .if2 .taken)))
 
 slice-aggregate-lay : tie.Need-slice-aggregate-lay
 slice-aggregate-lay c = sym (length-take-le _ _ (c .before .before .if2 .left))
@@ -76,20 +70,17 @@ lay-requires-2 c κs =
     (not-false _ (c .before .before .before .before .before .if1 .left)) in
     omega (arith, length-take-le (a .self .wanted - a .self .held) (now (a .bytes)) (c .before .before .if2 .left))
 
-in-buffer-requires : tie.Need-in-buffer-requires
-in-buffer-requires c κs = search needs
-
 slice-reshare-prefix-whole : tie.Need-slice-reshare-prefix-whole
 slice-reshare-prefix-whole c =
     let w = open-counts _
-    (c .before .before .before .before .before .before .before .before .before .before .before .before .before .pre .1)
-    (not-false _ (c .before .before .before .before .before .before .before .before .before .if1 .left)) in
+    (c .before .before .before .before .before .before .before .before .before .before .before .before .pre .1)
+    (not-false _ (c .before .before .before .before .before .before .before .before .if1 .left)) in
     omega arith
 
 slice-aggregate-whole : tie.Need-slice-aggregate-whole
 slice-aggregate-whole c =
     let w = open-counts _
-    (c .before .before .before .before .before .before .before .before .before .before .before .before .before .before .pre .1) (not-false _ (c .before .before .before .before .before .before .before .before .before .before .if1 .left)) in
+    (c .before .before .before .before .before .before .before .before .before .before .before .before .before .pre .1) (not-false _ (c .before .before .before .before .before .before .before .before .before .if1 .left)) in
     sym (length-take-le _ _ (omega arith))
 
 whole-requires : tie.Need-whole-requires
@@ -100,20 +91,19 @@ same-length-2 c = search needs
 
 returns-3 : tie.Need-returns-3
 returns-3 c memory =
-    let a = c .before .before .before .before .before .before .before .before .before .before .before .before .before .before .before .args in
-    let isOpen = not-false _ (c .before .before .before .before .before .before .before .before .before .before .before .if1 .left) in
-    let w = open-counts (a .self) (c .before .before .before .before .before .before .before .before .before .before .before .before .before .before .before .pre .1) isOpen in
-    ap (λ step. gathered step (c .before .before .before .before .before .lay2 .last .0)) (c .whole .ensures memory)
-    ∙ rw (c .before .before .before .before .before .lay2 .ensures, c .before .before .in-buffer .ensures)
+    let a = c .before .before .before .before .before .before .before .before .before .before .before .before .before .before .args in
+    let isOpen = not-false _ (c .before .before .before .before .before .before .before .before .before .before .if1 .left) in
+    let w = open-counts (a .self) (c .before .before .before .before .before .before .before .before .before .before .before .before .before .before .pre .1) isOpen in
+    ap (λ step. gathered step (c .before .before .before .before .lay2 .last .0)) (c .whole .ensures memory)
+    ∙ rw (c .before .before .before .before .lay2 .ensures)
     (sym (ap gatheredOf
-    (continued-whole (withMemory memory (a .self)) (now (a .bytes)) (now (a .buffer)) isOpen (w .below) (c .before .before .before .before .before .before .before .before .if2 .left))))
+    (continued-whole (withMemory memory (a .self)) (now (a .bytes)) (now (a .buffer)) isOpen (w .below) (c .before .before .before .before .before .before .before .if2 .left))))
 
 pub continued-spec : {M : Type 1} → statement M
 continued-spec =
     tie.close
     (tie.spec
-    idle-requires
-    answered-requires
+    ended-requires
     returns
     cast-held
     cast-wanted
@@ -121,13 +111,11 @@ continued-spec =
     lay-requires
     add-more
     cast-more
-    opened-requires
-    answered-requires-2
+    kept-requires
     same-length
     returns-2
     slice-aggregate-lay
     lay-requires-2
-    in-buffer-requires
     slice-reshare-prefix-whole
     slice-aggregate-whole
     whole-requires

@@ -7,7 +7,7 @@ use lib.ListN.{length-drop}
 use denote.Ref.{now}
 use Rattle.memory_words.specs.Words.{memoryIn}
 use Rattle.reader.specs.Head.{started}
-use Rattle.reader.specs.Gathering.{withMemory, answering, gathered, gatheredOf}
+use Rattle.reader.specs.Gathering.{withMemory, gathered, gatheredOf}
 use Rattle.delivered.proofs.Parts.{part-to-end}
 use Rattle.reader.proofs.Pointers.{no-unit-start, points-to, points-beyond, target-within}
 use Rattle.reader.proofs.Heads.{head-without-unit-start, head-at, head-beyond}
@@ -77,11 +77,8 @@ started-requires c κs =
 enum-told-2 : tie.Need-enum-told-2
 enum-told-2 c = search needs
 
-idle-requires : tie.Need-idle-requires
-idle-requires c κs = search needs
-
-answered-requires-2 : tie.Need-answered-requires-2
-answered-requires-2 c κs = search needs
+ended-requires : tie.Need-ended-requires
+ended-requires c κs = search needs
 
 returns : tie.Need-returns
 returns c =
@@ -109,9 +106,9 @@ returns-2 c =
 
 returns-3 : tie.Need-returns-3
 returns-3 c =
-    let a = c .before .before .before .before .before .before .before .before .args in
-    let beyond = points-beyond _ _ (sym (c .before .before .before .before .pointer-at .ensures) ∙ c .before .before .enum-told2 .given .1) in
-    ap (λ step. gathered step (now (a .buffer))) (c .answered2 .ensures ∙ ap (answering 9) (c .before .idle .ensures))
+    let a = c .before .before .before .before .before .before .before .args in
+    let beyond = points-beyond _ _ (sym (c .before .before .before .pointer-at .ensures) ∙ c .before .enum-told2 .given .1) in
+    ap (λ step. gathered step (now (a .buffer))) (c .ended .ensures)
     ∙ sym (ap gatheredOf
     (head-beyond (withMemory (memoryIn (now (a .memory))) (a .self)) (now (a .packet)) (a .start) (now (a .buffer)) (beyond .0) (beyond .1)))
 
@@ -130,8 +127,7 @@ head-from-spec =
     part-started-end
     started-requires
     enum-told-2
-    idle-requires
-    answered-requires-2
+    ended-requires
     returns
     same-length
     returns-2

@@ -5,7 +5,7 @@ use mathlib.Core.List.{List}
 use native.Mathlib.Omega.{arith}
 use denote.Ref.{now}
 use Rattle.reader.specs.Tail.{continued}
-use Rattle.reader.specs.Gathering.{withMemory, answering, gathered, gatheredOf}
+use Rattle.reader.specs.Gathering.{withMemory, gathered, gatheredOf}
 use Rattle.delivered.proofs.Parts.{part-to-end, part-of}
 use Rattle.reader.proofs.Pointers.{no-unit-start, points-to, points-beyond, end-within}
 use Rattle.reader.proofs.Tails.{tail-without-unit-start, tail-at-0, tail-up-to, tail-beyond}
@@ -72,11 +72,8 @@ continued-requires-2 c κs = search needs
 enum-told-2 : tie.Need-enum-told-2
 enum-told-2 c = search needs
 
-idle-requires : tie.Need-idle-requires
-idle-requires c κs = search needs
-
-answered-requires-2 : tie.Need-answered-requires-2
-answered-requires-2 c κs = search needs
+ended-requires : tie.Need-ended-requires
+ended-requires c κs = search needs
 
 same-length : tie.Need-same-length
 same-length c = search needs
@@ -106,9 +103,9 @@ returns-3 c memory =
 
 returns-4 : tie.Need-returns-4
 returns-4 c memory =
-    let a = c .before .before .before .before .before .before .before .args in
-    let beyond = points-beyond _ _ (sym (c .before .before .before .before .pointer-at .ensures) ∙ c .before .before .enum-told2 .given .1) in
-    ap (λ step. gathered step (now (a .buffer))) (c .answered2 .ensures ∙ ap (answering 9) (c .before .idle .ensures))
+    let a = c .before .before .before .before .before .before .args in
+    let beyond = points-beyond _ _ (sym (c .before .before .before .pointer-at .ensures) ∙ c .before .enum-told2 .given .1) in
+    ap (λ step. gathered step (now (a .buffer))) (c .ended .ensures)
     ∙ sym (ap gatheredOf
     (tail-beyond (withMemory memory (a .self)) (now (a .packet)) (a .start) (now (a .buffer)) (beyond .0) (beyond .1)))
 
@@ -132,8 +129,7 @@ tail-from-spec =
     part-continued-end-2
     continued-requires-2
     enum-told-2
-    idle-requires
-    answered-requires-2
+    ended-requires
     same-length
     returns-2
     same-length-2
