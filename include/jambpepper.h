@@ -226,12 +226,13 @@ enum {
 };
 
 /* The state, without what ONCE remembers. The steps answer 25 to one that is not
- * sound, and to a form above 2 or a flag above 1. */
+ * sound, and to a form above 2, a flag above 1 or reserved bytes other than 0. */
 typedef struct {
   uint8_t form;
-  uint8_t is_open; /* 1 where a section is open, else 0 */
-  uint16_t held;   /* the bytes of it that the buffer holds, else 0 */
-  uint16_t wanted; /* the bytes that it has, else 0 */
+  uint8_t is_open;   /* 1 where a section is open, else 0 */
+  uint16_t held;     /* the bytes of it that the buffer holds, else 0 */
+  uint16_t wanted;   /* the bytes that it has, else 0 */
+  uint16_t reserved; /* 0; with it a state is 8 bytes, which are moved at once */
 } JambpepperReader;
 
 /*

@@ -373,12 +373,24 @@ static void streams_that_do_not_fit(void) {
   NO_STREAM("", 1, JAMBPEPPER_POSITION_ABOVE_LENGTH, 0);
 }
 
+static void same_state(int line, JambpepperReader answered, JambpepperReader expected) {
+  compare(line, "reader.form", answered.form, expected.form);
+  compare(line, "reader.is_open", answered.is_open, expected.is_open);
+  compare(line, "reader.held", answered.held, expected.held);
+  compare(line, "reader.wanted", answered.wanted, expected.wanted);
+  compare(line, "reader.reserved", answered.reserved, expected.reserved);
+}
+
 static void same_reader(int line, JambpepperReader answered, uint8_t form, uint8_t is_open,
                         uint16_t held, uint16_t wanted) {
-  compare(line, "reader.form", answered.form, form);
-  compare(line, "reader.is_open", answered.is_open, is_open);
-  compare(line, "reader.held", answered.held, held);
-  compare(line, "reader.wanted", answered.wanted, wanted);
+  JambpepperReader expected;
+
+  memset(&expected, 0, sizeof expected);
+  expected.form = form;
+  expected.is_open = is_open;
+  expected.held = held;
+  expected.wanted = wanted;
+  same_state(line, answered, expected);
 }
 
 static void same_place(int line, JambpepperPlace answered, uint8_t holder, uint16_t start,
@@ -466,7 +478,7 @@ static void states(void) {
 /* the step gave this answer, the state as it was, and no section */
 static void refused(int line, JambpepperStep step, JambpepperReader reader, uint8_t answer) {
   compare(line, "step.answer", step.answer, answer);
-  same_reader(line, step.reader, reader.form, reader.is_open, reader.held, reader.wanted);
+  same_state(line, step.reader, reader);
   same_place(line, step.place, JAMBPEPPER_NOWHERE, 0, 0);
 }
 
@@ -519,6 +531,11 @@ static void unsound_states(void) {
     reader.is_open = 2;
     reader.held = 8;
     reader.wanted = 1024;
+    unsound(__LINE__, reader, none, memory_words);
+    reader = fresh(form);
+    reader.reserved = 1;
+    unsound(__LINE__, reader, none, memory_words);
+    reader.reserved = 0x8000;
     unsound(__LINE__, reader, none, memory_words);
   }
   unsound(__LINE__, jambpepper_fresh(3), none, 0);

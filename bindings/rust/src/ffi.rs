@@ -122,6 +122,7 @@ pub struct JambpepperReader {
     pub is_open: u8,
     pub held: u16,
     pub wanted: u16,
+    pub reserved: u16,
 }
 
 #[repr(C)]

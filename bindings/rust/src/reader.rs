@@ -174,6 +174,7 @@ impl Reader {
             is_open: self.is_open.into(),
             held: self.held,
             wanted: self.wanted,
+            reserved: 0,
         }
     }
 

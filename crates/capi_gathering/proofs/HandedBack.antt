@@ -76,7 +76,7 @@ state-again reader words beside = simp (form-again, flag-again, beside .again)
 pub state-is-named : (reader : Reader) (words : List ℕ) → Beside reader words → namesReader (readerForC reader) words ≡ true
 unfolding namesReader
 state-is-named reader words beside =
-    both-hold _ _ (form-is-named (reader .form)) (both-hold _ _ (flag-is-named (reader .«is_open»)) (beside .named))
+    both-hold _ _ (form-is-named (reader .form)) (both-hold _ _ (flag-is-named (reader .«is_open»)) (both-hold _ _ refl (beside .named)))
 
 -- ---- a step
 

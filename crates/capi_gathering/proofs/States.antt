@@ -42,8 +42,9 @@ pub record Named (state : JambpepperReader) (words : List ℕ) : Type 0 where
 pub named-parts : (state : JambpepperReader) (words : List ℕ) → namesReader state words ≡ true → Named state words
 unfolding namesReader
 named-parts state words named =
-    let others = and-holds _ _ (and-holds _ _ named .1) in
-    record { form = and-holds _ _ named .0; isOpen = others .0; memory = others .1 }
+    let behind-form = and-holds _ _ named in
+    let behind-flag = and-holds _ _ (behind-form .1) in
+    record { form = behind-form .0; isOpen = behind-flag .0; memory = and-holds _ _ (behind-flag .1) .1 }
 
 no-words-in-range : (words : List ℕ) → length words ≡ 0 → InRange words
 no-words-in-range [] l = omega arith

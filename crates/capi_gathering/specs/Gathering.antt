@@ -53,6 +53,7 @@ gatheringForC gathering =
       «is_open» = flag (gathering .«is_open»);
       held = gathering .held;
       wanted = gathering .wanted;
+      reserved = 0;
     }
 
 abbrev pub readerForC : Reader → JambpepperReader
@@ -68,9 +69,10 @@ namesMemory form words =
     if form isNot formNumber Form.Once then length words is 0
     else (length words is memoryWords and word words 0 isBelow 2 ^ 33)
 
--- whether the form, the flag and the words are ones that a state has
+-- whether the form, the flag and the words are ones that a state has, and what is reserved is 0
 unfoldable pub namesReader : JambpepperReader → List ℕ → Bool
-namesReader state words = namesForm (state .form) and namesFlag (state .«is_open») and namesMemory (state .form) words
+namesReader state words =
+    namesForm (state .form) and namesFlag (state .«is_open») and state .reserved is 0 and namesMemory (state .form) words
 
 -- the reader that such a state names
 abbrev pub gatheringFromC : JambpepperReader → Gathering
@@ -86,7 +88,7 @@ soundForC state words = namesReader state words and sound (readerFromC state wor
 
 -- a fresh state; a number that names no form stays in it, and so it is not sound
 abbrev pub freshForC : ℕ → JambpepperReader
-freshForC form = record { form = form; «is_open» = 0; held = 0; wanted = 0 }
+freshForC form = record { form = form; «is_open» = 0; held = 0; wanted = 0; reserved = 0 }
 
 -- ---- the steps
 

@@ -24,13 +24,15 @@ use reader::Holder;
 use reader::Place;
 use reader::Reader;
 
-// The state without its memory, which is lent beside it: 48 bytes by value would go through the stack in each call.
+// The state without its memory, which is lent beside it: 48 bytes by value would go through the stack in each call. 8 bytes are moved at once: a host that stores
+// 6 in two parts and loads them in two others waits for the first.
 #[repr(C)]
 pub struct JambpepperReader {
     pub form: u8,
     pub is_open: u8,
     pub held: u16,
     pub wanted: u16,
+    pub reserved: u16,
 }
 
 #[repr(C)]
@@ -93,7 +95,9 @@ fn names_reader(reader: JambpepperReader, memory: &[u64]) -> bool
 {
     if reader.form <= 2 {
         if reader.is_open <= 1 {
-            return names_memory(reader.form, memory);
+            if reader.reserved == 0 {
+                return names_memory(reader.form, memory);
+            }
         }
     }
     false
@@ -121,6 +125,7 @@ fn gathering_for_c(gathering: Gathering) -> JambpepperReader
         is_open: gathering.is_open as u8,
         held: gathering.held,
         wanted: gathering.wanted,
+        reserved: 0,
     }
 }
 
@@ -172,6 +177,7 @@ pub extern "C" fn jambpepper_fresh(form: u8) -> JambpepperReader
         is_open: 0,
         held: 0,
         wanted: 0,
+        reserved: 0,
     }
 }
 

@@ -121,6 +121,7 @@ pub struct State {
     pub is_open: u8,
     pub held: u16,
     pub wanted: u16,
+    pub reserved: u16,
 }
 
 /// What ONCE remembers, as it is lent beside its state. Word 0 has the table id in bits 0 (the lowest) to 7, the id in bits 8 to 23, the current bit

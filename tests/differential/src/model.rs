@@ -129,7 +129,8 @@ fn sound(state: State, memory: &[u64]) -> bool {
     } else {
         least <= state.held && state.held < state.wanted && state.wanted <= 1024
     };
-    state.form <= 2 && state.is_open <= 1 && counts && sound_memory(state.form, memory)
+    let named = state.form <= 2 && state.is_open <= 1 && state.reserved == 0;
+    named && counts && sound_memory(state.form, memory)
 }
 
 /// "Version at most 31, at least one mark; none is all zero." COMPACT and FULL are lent no words.

@@ -61,6 +61,7 @@ enum Slip {
     WordsInFullTaken,
     FormAboveTaken,
     FlagAboveTaken,
+    ReservedTaken,
     UnsoundMadeFresh,
     UnsoundForgets,
     RefusedForgets,
@@ -107,7 +108,7 @@ enum Slip {
 use Slip::*;
 
 /// Every slip, and whether the Rust crate shows enough to notice it without comparing the model, which is asked only where ONCE's two rules part.
-const SLIPS: [(Slip, bool); 90] = [
+const SLIPS: [(Slip, bool); 91] = [
     (TailPlaceOneLate, true),
     (HeadPlaceOneLate, true),
     (LengthOneShort, true),
@@ -158,6 +159,7 @@ const SLIPS: [(Slip, bool); 90] = [
     (WordsInFullTaken, false),
     (FormAboveTaken, false),
     (FlagAboveTaken, false),
+    (ReservedTaken, false),
     (UnsoundMadeFresh, false),
     (UnsoundForgets, false),
     (RefusedForgets, true),
@@ -231,6 +233,7 @@ impl Mutated<'_> {
                 memory.resize(words(state.form), 0);
             }
             FlagAboveTaken => state.is_open = state.is_open.min(1),
+            ReservedTaken => state.reserved = 0,
             _ => self.turn(&mut memory),
         }
         (state, memory)

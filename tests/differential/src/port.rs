@@ -12,6 +12,7 @@ fn reader(state: State) -> ffi::JambpepperReader {
         is_open: state.is_open,
         held: state.held,
         wanted: state.wanted,
+        reserved: state.reserved,
     }
 }
 
@@ -21,6 +22,7 @@ fn state(reader: ffi::JambpepperReader) -> State {
         is_open: reader.is_open,
         held: reader.held,
         wanted: reader.wanted,
+        reserved: reader.reserved,
     }
 }
 

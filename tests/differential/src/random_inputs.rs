@@ -372,6 +372,7 @@ pub fn state(random: &mut Random) -> State {
             state.held = random.number() as u16;
             state.wanted = random.number() as u16;
         }
+        8 => state.reserved = random.pick(&[1, 2, 255, 256, 32768, 65535]),
         _ => {}
     }
     state
