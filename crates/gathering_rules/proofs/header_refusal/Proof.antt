@@ -35,7 +35,8 @@ returns-2 : tie.Need-returns-2
 unfolding headerRefusal
 returns-2 c =
     rw (c .before .before .enum-told .given .1)
-    (c .length-refusal .ensures ∙ sym (test-fails _ _ _ (ap (λ b. not (not b)) (c .before .if1 .left)) ∙ test-fails _ _ _ (le-ltb _ _ (c .before .before .before .before .pre))))
+    (c .length-refusal .ensures
+    ∙ sym (test-fails _ _ _ (ap (λ b. not (not b)) (c .before .if1 .left)) ∙ test-fails _ _ _ (le-ltb _ _ (c .before .before .before .before .pre))))
 
 returns-3 : tie.Need-returns-3
 unfolding headerRefusal

@@ -26,7 +26,8 @@ returns c =
 header-refusal-requires : tie.Need-header-refusal-requires
 header-refusal-requires c κs =
     let known = sym (ap headerSays (c .before .header2 .given .1)) ∙ c .before .before .before .header .ensures in
-    three-bytes (c .before .before .before .before .before .before .args .form) (memoryIn (now (c .before .before .before .before .before .before .args .memory))) _ _ known
+    let a = c .before .before .before .before .before .before .args in
+    three-bytes (a .form) (memoryIn (now (a .memory))) _ _ known
 
 returns-2 : tie.Need-returns-2
 returns-2 c =
@@ -39,13 +40,15 @@ repeats-requires c κs = search needs
 
 returns-3 : tie.Need-returns-3
 returns-3 c =
-    let known = sym (ap headerSays (c .before .before .before .before .before .header2 .given .1)) ∙ c .before .before .before .before .before .before .before .header .ensures in
+    let known = sym (ap headerSays (c .before .before .before .before .before .header2 .given .1))
+    ∙ c .before .before .before .before .before .before .before .header .ensures in
     sym (start-left-to-memory _ _ _ _ known (sym (c .before .before .before .header-refusal .ensures) ∙ c .before .before .if1 .left)
     ∙ test-holds _ _ _ (sym (c .before .repeats .ensures) ∙ c .if2 .taken))
 
 returns-4 : tie.Need-returns-4
 returns-4 c =
-    let known = sym (ap headerSays (c .before .before .before .before .before .header2 .given .1)) ∙ c .before .before .before .before .before .before .before .header .ensures in
+    let known = sym (ap headerSays (c .before .before .before .before .before .header2 .given .1))
+    ∙ c .before .before .before .before .before .before .before .header .ensures in
     sym (start-left-to-memory _ _ _ _ known (sym (c .before .before .before .header-refusal .ensures) ∙ c .before .before .if1 .left)
     ∙ test-fails _ _ _ (sym (c .before .repeats .ensures) ∙ c .if2 .left))
 

@@ -36,7 +36,8 @@ returns c =
     let label = c .before .before .before .before .before .before .before .before .of .result in
     c .before .before .put .ensures
     ∙ ap₂ (λ (first : ℕ) (marks : Marks). put first marks words) (c .before .before .before .before .before .numbers .ensures)
-    (c .before .before .before .before .with-mark .ensures ∙ ap (λ (marks : Marks). withMark marks (label .«section_number»)) (c .before .before .before .before .before .before .marks-for .ensures))
+    (c .before .before .before .before .with-mark .ensures
+    ∙ ap (λ (marks : Marks). withMark marks (label .«section_number»)) (c .before .before .before .before .before .before .marks-for .ensures))
     ∙ ap (λ (l : Label). written (remembering (memoryIn words) l) words) (c .before .before .before .before .before .before .before .before .of .ensures)
 
 pub note-spec : {M : Type 1} → statement M

@@ -44,7 +44,8 @@ same-length c = search needs
 returns : tie.Need-returns
 unfolding put
 returns c =
-    five-written (now (c .before .before .before .before .before .args .words)) (c .before .before .before .before .if1 .taken) _ _ _ _ _ ∙ sym (test-holds _ _ _ (eq-eqb _ _ (c .before .before .before .before .if1 .taken)))
+    let five = c .before .before .before .before .if1 .taken in
+    five-written (now (c .before .before .before .before .before .args .words)) five _ _ _ _ _ ∙ sym (test-holds _ _ _ (eq-eqb _ _ five))
 
 returns-2 : tie.Need-returns-2
 unfolding put

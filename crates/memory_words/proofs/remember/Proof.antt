@@ -35,7 +35,8 @@ returns-2 : tie.Need-returns-2
 returns-2 c =
     let a = c .before .before .before .before .before .before .before .before .before .before .before .args in
     c .before .before .put .ensures ∙ ap (λ (marks : Marks). put 0 marks (now (a .words))) (c .before .before .before .before .none .ensures)
-    ∙ sym (forgotten-words (a .answer) (now (a .words)) (now (a .section)) (c .before .before .before .before .before .before .before .before .if1 .left) (sym (c .before .before .before .before .before .before .remembers .ensures) ∙ c .before .before .before .before .before .if2 .taken))
+    ∙ sym (forgotten-words (a .answer) (now (a .words)) (now (a .section)) (c .before .before .before .before .before .before .before .before .if1 .left)
+    (sym (c .before .before .before .before .before .before .remembers .ensures) ∙ c .before .before .before .before .before .if2 .taken))
 
 same-length-3 : tie.Need-same-length-3
 same-length-3 c = search needs

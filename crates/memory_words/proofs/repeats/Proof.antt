@@ -35,7 +35,8 @@ marked-requires c κs = search needs
 returns : tie.Need-returns
 returns c =
     let a = c .before .before .before .before .before .before .before .before .before .before .args in
-    let agreed = ap (agree (now (a .words))) (sym (c .before .before .before .before .before .of .ensures)) ∙ sym (c .before .before .before .before .agree .ensures) ∙ c .before .before .before .if1 .taken in
+    let agreed = ap (agree (now (a .words))) (sym (c .before .before .before .before .before .of .ensures)) ∙ sym (c .before .before .before .before .agree .ensures)
+    ∙ c .before .before .before .if1 .taken in
     let label = c .before .before .before .before .before .of .result in
     c .marked .ensures ∙ ap (λ (m : Memory). marked (m .marks) (label .«section_number»)) (c .before .before .memory-of .ensures)
     ∙ ap (λ (l : Label). marked (memoryIn (now (a .words)) .marks) (l .«section_number»)) (c .before .before .before .before .before .of .ensures)
