@@ -450,6 +450,8 @@ static void states(void) {
   JambpepperReader reader;
   uint8_t form;
 
+  SAME(sizeof(JambpepperReader), 8);
+  SAME(sizeof(JambpepperStep), 16);
   for (form = JAMBPEPPER_COMPACT; form <= JAMBPEPPER_ONCE; form++) {
     reader = fresh(form);
     same_reader(__LINE__, reader, form, 0, 0, 0);

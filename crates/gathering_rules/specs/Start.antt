@@ -35,10 +35,13 @@ startRefusal form memory bytes =
     else if repeats form memory bytes then alreadyDelivered
     else 0
 
--- the part of it that the header tells, of so many bytes
+-- ---- the parts of it that the code asks one after another
+
+-- 13, or 0
 abbrev pub lengthRefusal : SectionCommonHeader → ℕ
 lengthRefusal header = if header .«section_length» isAbove lengthLimit then lengthAbove1021 else 0
 
+-- 11, 12, 13, or 0, of a header and so many bytes
 unfoldable pub headerRefusal : Form → SectionCommonHeader → ℕ → ℕ
 headerRefusal form header len =
     if not (takesSyntax form (header .«section_syntax_indicator»)) then syntaxIndicator

@@ -218,15 +218,11 @@ same-bit a b e = sym (flag-again a) ∙ ap (λ (n : ℕ). n is 1) e ∙ flag-aga
 numbers-tell : (memory : Memory) (label : Label) → Fits memory → LabelFits label → numbersOf memory ≡ numbersIn label
     → Agreeing memory label
 numbers-tell memory label fits labelFits e =
-    let bit = flag-below-2 (memory .«current_next_indicator») in
-    let labelBit = flag-below-2 (label .«current_next_indicator») in
-    record {
-      tableId = omega (arith, fits .byte, fits .bytes, fits .version, labelFits .byte, labelFits .bytes, labelFits .version, bit, labelBit, e);
-      id = omega (arith, fits .byte, fits .bytes, fits .version, labelFits .byte, labelFits .bytes, labelFits .version, bit, labelBit, e);
-      version = omega (arith, fits .byte, fits .bytes, fits .version, labelFits .byte, labelFits .bytes, labelFits .version, bit, labelBit, e);
-      current = same-bit _ _
-          (omega (arith, fits .byte, fits .bytes, fits .version, labelFits .byte, labelFits .bytes, labelFits .version, bit, labelBit, e));
-    }
+    let record { byte = a; bytes = b; version = d; four = f } = fits in
+    let record { byte = a′; bytes = b′; version = d′ } = labelFits in
+    let c = flag-below-2 (memory .«current_next_indicator») in
+    let c′ = flag-below-2 (label .«current_next_indicator») in
+    record { tableId = omega arith; id = omega arith; version = omega arith; current = same-bit _ _ (omega arith) }
 
 same-numbers : (memory : Memory) (label : Label) → Agreeing memory label → numbersOf memory ≡ numbersIn label
 same-numbers memory label same = rw (same .tableId, same .id, same .version, same .current) refl
@@ -244,13 +240,10 @@ agree-by-word words label fits five =
 
 -- ---- what the code does, by whether they agree and by the answer
 
-agreed-parts : (words : List ℕ) (label : Label) → agree words label ≡ true → (length words ≡ memoryWords) × (agrees (memoryIn words) label ≡ true)
-agreed-parts words label h = let parts = and-holds _ _ h in (eqb-true _ _ (parts .0), parts .1)
-
 pub marks-that-agree : (words : List ℕ) (label : Label) → agree words label ≡ true
     → marksFor (memoryIn words) label ≡ memoryIn words .marks
 unfolding marksFor
-marks-that-agree words label h = test-holds _ _ _ (agreed-parts words label h .1)
+marks-that-agree words label h = test-holds _ _ _ (and-holds _ _ h .1)
 
 -- of other than five words there are no marks, whether they agree or not
 pub marks-that-do-not : (words : List ℕ) (label : Label) → agree words label ≡ false → marksFor (memoryIn words) label ≡ noMarks
@@ -292,7 +285,7 @@ module _ (form : Form) (words bytes : List ℕ) (isOnce : form ≡ Form.Once) wh
   pub repeated-if-agreed : agree words (labelOf bytes) ≡ true
       → repeats form (memoryIn words) bytes ≡ marked (memoryIn words .marks) (labelOf bytes .«section_number»)
   unfolding repeats
-  repeated-if-agreed h = rw isOnce (test-holds _ _ _ (agreed-parts words (labelOf bytes) h .1))
+  repeated-if-agreed h = rw isOnce (test-holds _ _ _ (and-holds _ _ h .1))
 
   pub not-repeated : agree words (labelOf bytes) ≡ false → repeats form (memoryIn words) bytes ≡ false
   unfolding repeats memoryIn

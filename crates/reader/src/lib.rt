@@ -312,7 +312,7 @@ impl Gathering {
         }
     }
 
-    // The tail step, where what is remembered is lent as words; `memory_words::remember` writes what is remembered after it.
+    // The tail step, where what is remembered is lent as words; `memory_words::remember` writes what ONCE remembers after it.
     pub fn tail_with(self, memory: &[u64], packet: &[u8], buffer: &mut [u8]) -> GatheringStep
         ensures { λ r. ⌜ gathered r (now (buffer .exit)) ≡ gatheredOf (tailOf (withMemory (memoryIn (now (memory .entry))) self) (now (packet .entry)) (now (buffer .entry))) ⌝ }
     {
@@ -408,7 +408,7 @@ impl Gathering {
         }
     }
 
-    // The head step, where what is remembered is lent as words; `memory_words::remember` writes what is remembered after it.
+    // The head step, where what is remembered is lent as words; `memory_words::remember` writes what ONCE remembers after it.
     pub fn head_with(self, memory: &[u64], packet: &[u8], buffer: &mut [u8]) -> GatheringStep
         ensures { λ r. ⌜ gathered r (now (buffer .exit)) ≡ gatheredOf (headOf (withMemory (memoryIn (now (memory .entry))) self) (now (packet .entry)) (now (buffer .entry))) ⌝ }
     {
