@@ -1,4 +1,6 @@
 // The adaptation field of a packet: its length and its flags. The crate's src/packet.rs.
+#![tactic(auto)]
+
 ghost use Rattle.std.specs.Prelude.{◌≡◌, ◌+◌, ◌≤◌, ◌<◌, length};
 ghost use Rattle.answers.specs.Says.{given};
 ghost use Rattle.packet.specs.Header.{size};
@@ -11,7 +13,7 @@ use fields::word;
 use packet::{HeaderAnswer, Packet};
 
 // The field's length and its flags, the last five of which tell what follows them.
-#[derive(Drop)]
+#[derive(Clone, Copy)]
 pub struct AdaptationField {
     pub adaptation_field_length: u8,
     pub discontinuity_indicator: bool,
@@ -25,7 +27,7 @@ pub struct AdaptationField {
 }
 
 // The field, or 3, 4, 18, 19.
-#[derive(Drop)]
+#[derive(Clone, Copy)]
 pub enum AdaptationFieldAnswer {
     Is(AdaptationField),
     Refused(Refusal),

@@ -1,4 +1,6 @@
 // The parts of an adaptation field, each behind its flag: PCR, OPCR, splice countdown, private data. The crate's src/packet.rs.
+#![tactic(auto)]
+
 ghost use Rattle.std.specs.Prelude.{◌≡◌, ◌+◌, ◌≤◌, ◌<◌, length, take, drop};
 ghost use Rattle.fields.specs.Choice.{if◌then◌else◌};
 ghost use Rattle.packet.specs.Header.{size};
@@ -18,35 +20,35 @@ const PCR_OFFSET: usize = 1;
 const PCR_SIZE: usize = 6;
 
 // 33 bits, and 9 bits that may be above 299.
-#[derive(Drop)]
+#[derive(Clone, Copy)]
 pub struct ClockRef {
     pub base: u64,
     pub extension: u16,
 }
 
 // Where private data starts in its packet, and how many bytes it has.
-#[derive(Drop)]
+#[derive(Clone, Copy)]
 pub struct PrivateData {
     pub start: usize,
     pub length: usize,
 }
 
 // A PCR or an OPCR, or 3, 4, 18, 19, 20, 21.
-#[derive(Drop)]
+#[derive(Clone, Copy)]
 pub enum ClockAnswer {
     Is(ClockRef),
     Refused(Refusal),
 }
 
 // The countdown's byte, or 3, 4, 18, 19, 20, 21.
-#[derive(Drop)]
+#[derive(Clone, Copy)]
 pub enum SpliceCountdown {
     Is(u8),
     Refused(Refusal),
 }
 
 // The private data's place, or 3, 4, 18, 19, 20, 21.
-#[derive(Drop)]
+#[derive(Clone, Copy)]
 pub enum TransportPrivateData {
     At(PrivateData),
     Refused(Refusal),

@@ -1,4 +1,6 @@
 // The table of answers: the one place of the code where their numbers stand.
+#![tactic(auto)]
+
 ghost use Rattle.std.specs.Prelude.{◌≡◌};
 ghost use Rattle.answers.specs.Refusals.{number_of};
 
@@ -67,7 +69,7 @@ impl Answer {
 
 // Why a call gives nothing of what was asked: the rows that a call answers as a case of an enum. (22, 24, 27 and 28 tell numbers, and are cases of the
 // calls' own answers; a step answers the other rows as numbers.)
-#[derive(Drop)]
+#[derive(Clone, Copy)]
 pub enum Refusal {
     PacketSize,
     NoSyncByte,

@@ -1,4 +1,6 @@
 // The C face of adaptation fields and their parts.
+#![tactic(auto)]
+
 ghost use Rattle.std.specs.Prelude.{◌≡◌};
 ghost use Rattle.adaptation.specs.AdaptationField.{adaptation_field_of};
 ghost use Rattle.adaptation_parts.specs.Parts.{clock_says, pcr_of, opcr_of, splice_countdown_of, transport_private_data_of};
@@ -9,7 +11,7 @@ use adaptation_parts::{ClockAnswer, SpliceCountdown, TransportPrivateData};
 use capi_numbers::JambpepperPart;
 
 #[repr(C)]
-#[derive(Drop)]
+#[derive(Clone, Copy)]
 pub struct JambpepperAdaptationField {
     pub adaptation_field_length: u8,
     pub discontinuity_indicator: u8,
@@ -24,7 +26,7 @@ pub struct JambpepperAdaptationField {
 }
 
 #[repr(C)]
-#[derive(Drop)]
+#[derive(Clone, Copy)]
 pub struct JambpepperClock {
     pub base: u64,
     pub extension: u16,
@@ -32,7 +34,7 @@ pub struct JambpepperClock {
 }
 
 #[repr(C)]
-#[derive(Drop)]
+#[derive(Clone, Copy)]
 pub struct JambpepperSpliceCountdown {
     pub splice_countdown: u8,
     pub answer: u8,

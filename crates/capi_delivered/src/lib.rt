@@ -1,4 +1,6 @@
 // The C face of a delivered section: where C reads it.
+#![tactic(auto)]
+
 ghost use Rattle.std.specs.Prelude.{◌≡◌};
 ghost use Rattle.capi_delivered.specs.Delivered.{holder_of, place_from_c, section_for_c};
 

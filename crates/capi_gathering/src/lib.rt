@@ -1,4 +1,6 @@
 // The C face of gathering: the state and both steps; and of the CRC, so that the steps and C call one copy of it.
+#![tactic(auto)]
+
 ghost use Rattle.std.specs.Prelude.{◌+◌, ◌≤◌, ◌≡◌, true, length, take, drop};
 ghost use Rattle.memory_words.specs.Words.{words_after};
 ghost use Rattle.mpegts_crc.specs.Crc.{crc_of};
@@ -18,7 +20,7 @@ use reader::{Form, Gathering, GatheringStep, Holder, Place, Reader};
 // The state without its memory, which is lent beside it: 48 bytes by value would go through the stack in each call. 8 bytes are moved at once: a host that stores
 // 6 in two parts and loads them in two others waits for the first.
 #[repr(C)]
-#[derive(Drop)]
+#[derive(Clone, Copy)]
 pub struct JambpepperReader {
     pub form: u8,
     pub is_open: u8,
@@ -28,7 +30,7 @@ pub struct JambpepperReader {
 }
 
 #[repr(C)]
-#[derive(Drop)]
+#[derive(Clone, Copy)]
 pub struct JambpepperStep {
     pub reader: JambpepperReader,
     pub place: JambpepperPlace,

@@ -1,4 +1,6 @@
 // The C face of packets: header, counter, payload.
+#![tactic(auto)]
+
 ghost use Rattle.std.specs.Prelude.{◌≡◌};
 ghost use Rattle.packet.specs.Header.{header_of};
 ghost use Rattle.packet.specs.Payload.{payload_of};
@@ -9,7 +11,7 @@ ghost use Rattle.capi_packets.specs.Packets.{header_for_c, payload_for_c};
 use packet::{ContinuityCounter, HeaderAnswer, Packet, Payload};
 
 #[repr(C)]
-#[derive(Drop)]
+#[derive(Clone, Copy)]
 pub struct JambpepperHeader {
     pub pid: u16,
     pub transport_error_indicator: u8,
@@ -22,7 +24,7 @@ pub struct JambpepperHeader {
 }
 
 #[repr(C)]
-#[derive(Drop)]
+#[derive(Clone, Copy)]
 pub struct JambpepperPayload {
     pub start: usize,
     pub answer: u8,

@@ -1,4 +1,6 @@
 // The C face of sections: headers and body.
+#![tactic(auto)]
+
 ghost use Rattle.std.specs.Prelude.{◌≡◌};
 ghost use Rattle.psi.specs.Header.{header_of, table_header_of};
 ghost use Rattle.psi.specs.Body.{body_of};
@@ -8,7 +10,7 @@ use capi_numbers::JambpepperPart;
 use psi::{Body, HeaderAnswer, Section, TableHeaderAnswer};
 
 #[repr(C)]
-#[derive(Drop)]
+#[derive(Clone, Copy)]
 pub struct JambpepperSectionHeader {
     pub section_length: u16,
     pub table_id: u8,
@@ -18,7 +20,7 @@ pub struct JambpepperSectionHeader {
 }
 
 #[repr(C)]
-#[derive(Drop)]
+#[derive(Clone, Copy)]
 pub struct JambpepperTableHeader {
     pub id: u16,
     pub version: u8,

@@ -1,4 +1,6 @@
 // The C face of the walks over PAT and PMT.
+#![tactic(auto)]
+
 ghost use Rattle.std.specs.Prelude.{◌≡◌};
 ghost use Rattle.pat.specs.Programs.{program_at};
 ghost use Rattle.pmt.specs.Start.{start_of};
@@ -10,7 +12,7 @@ use pat::{PatSection, ProgramAnswer, ProgramDescriptor};
 use pmt::{PmtAnswer, PmtSection, StreamAnswer};
 
 #[repr(C)]
-#[derive(Drop)]
+#[derive(Clone, Copy)]
 pub struct JambpepperProgram {
     pub next: usize,
     pub offset: usize,
@@ -20,7 +22,7 @@ pub struct JambpepperProgram {
 }
 
 #[repr(C)]
-#[derive(Drop)]
+#[derive(Clone, Copy)]
 pub struct JambpepperPmt {
     pub descriptors_start: usize,
     pub descriptors_length: usize,
@@ -32,7 +34,7 @@ pub struct JambpepperPmt {
 }
 
 #[repr(C)]
-#[derive(Drop)]
+#[derive(Clone, Copy)]
 pub struct JambpepperStream {
     pub info_start: usize,
     pub info_length: usize,

@@ -1,4 +1,6 @@
 // Bit steps of ISO/IEC 13818-1, Annex A: eight bytes enter the register at once.
+#![tactic(auto)]
+
 ghost use Rattle.std.specs.Prelude.{◌≡◌, ◌%◌, ◌<◌, get_or};
 ghost use Rattle.crc_steps.specs.BitSteps.{bit_steps, bits_enter};
 ghost use Rattle.crc_steps.specs.StepTable.{nibble_entry, NibbleTables};

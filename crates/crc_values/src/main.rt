@@ -1,5 +1,7 @@
 // Compares sum32 with the values of a list that tests/crc/make-values made, and says how many were compared and which differ.
 // The list is vector after vector: the number of bytes, the bytes, their CRC. Numbers have four bytes, most significant first.
+#![tactic(auto)]
+
 ghost use Rattle.std.specs.Prelude.{◌≡◌, ◌+◌, ◌≤◌, ◌<◌, length};
 
 use fields::word;
@@ -7,7 +9,7 @@ use libc::{STDIN_FILENO, STDOUT_FILENO};
 use text::{front, put_decimal, put_hexadecimal, put_text};
 
 // How far the list was compared.
-#[derive(Drop)]
+#[derive(Clone, Copy)]
 struct Tally {
     at: usize,
     compared: usize,

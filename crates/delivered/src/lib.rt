@@ -1,10 +1,12 @@
 // The reading of a delivered section, where a step said that it lies.
+#![tactic(auto)]
+
 ghost use Rattle.std.specs.Prelude.{◌≡◌};
 ghost use Rattle.delivered.specs.Delivered.{part_of, section_of};
 
 use answers::Answer;
 
-#[derive(Drop)]
+#[derive(Clone, Copy)]
 pub enum Holder {
     Nowhere,
     Packet,
@@ -12,7 +14,7 @@ pub enum Holder {
 }
 
 // Where a delivered section lies.
-#[derive(Drop)]
+#[derive(Clone, Copy)]
 pub struct Place {
     pub holder: Holder,
     pub start: u16,

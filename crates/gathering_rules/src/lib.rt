@@ -1,5 +1,7 @@
 // What every reader of sections tests: the checks before a step, what refuses the start of a section, and how a whole section ends.
 // The crate's src/psi/mod.rs.
+#![tactic(auto)]
+
 ghost use Rattle.std.specs.Prelude.{◌≡◌, ◌≤◌};
 ghost use Rattle.memory.specs.declared.Form.{Form};
 ghost use Rattle.packet.specs.Payload.{payload_says};

@@ -1,10 +1,12 @@
 // What a section says of itself: which table it is of, and which of its sections.
+#![tactic(auto)]
+
 ghost use Rattle.std.specs.Prelude.{◌≡◌};
 ghost use Rattle.labels.specs.Label.{table_id_of, table_of, label_of, no_label};
 
 use psi::{HeaderAnswer, Section, TableHeaderAnswer, TableSyntaxHeader};
 
-#[derive(Drop)]
+#[derive(Clone, Copy)]
 pub struct Label {
     pub table_id: u8,
     pub id: u16,

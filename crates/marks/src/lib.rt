@@ -1,9 +1,11 @@
 // A mark for each of the numbers 0 to 255, by value.
+#![tactic(auto)]
+
 ghost use Rattle.std.specs.Prelude.{◌≡◌};
 ghost use Rattle.marks.specs.Marks.{no_marks, any_marked, marked, with_mark};
 
 // Four words of 64: the mark of a number is a bit of one of them.
-#[derive(Drop)]
+#[derive(Clone, Copy)]
 pub struct Marks {
     pub words: [u64; 4],
 }

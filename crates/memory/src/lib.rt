@@ -1,4 +1,6 @@
 // The forms of a reader, and what the form ONCE remembers.
+#![tactic(auto)]
+
 ghost use Rattle.std.specs.Prelude.{◌≡◌};
 ghost use Rattle.memory.specs.Memory.{no_memory, sound_memory, agrees};
 ghost use Rattle.memory.specs.Memory.{marks_for, remembering, on_delivery, after_answer};
@@ -7,7 +9,7 @@ use answers::Answer;
 use labels::Label;
 use marks::Marks;
 
-#[derive(Drop)]
+#[derive(Clone, Copy)]
 pub enum Form {
     Compact,
     Full,
@@ -15,7 +17,7 @@ pub enum Form {
 }
 
 // What ONCE remembers of the sections that it delivered: the four numbers that they have in common, and a mark for the number of each. All zero is none.
-#[derive(Drop)]
+#[derive(Clone, Copy)]
 pub struct Memory {
     pub table_id: u8,
     pub id: u16,

@@ -1,4 +1,6 @@
 // What ONCE remembers, as words that a host lends beside the state: a step then reads and writes them where they are, and carries no memory.
+#![tactic(auto)]
+
 ghost use Rattle.std.specs.Prelude.{◌≡◌};
 ghost use Rattle.labels.specs.Label.{label_of};
 ghost use Rattle.memory.specs.Memory.{sound_memory, repeats, marks_for, remembering};

@@ -1,4 +1,6 @@
 // The 32-bit CRC of ISO/IEC 13818-1, Annex A, eight bytes at a time.
+#![tactic(auto)]
+
 ghost use Rattle.std.specs.Prelude.{◌≡◌, ◌-◌, ◌*◌, ◌<◌, ◌≤◌, length};
 ghost use Rattle.fields.specs.BitString.{number_at};
 ghost use Rattle.crc_steps.specs.BitSteps.{bits_enter};

@@ -1,4 +1,6 @@
 // A transport packet: its header, its counter, and where its payload lies. The crate's src/packet.rs.
+#![tactic(auto)]
+
 ghost use Rattle.std.specs.Prelude.{◌≡◌, length};
 ghost use Rattle.packet.specs.Counter.{follows_of};
 ghost use Rattle.packet.specs.Payload.{control_of, payload_says, starting_at, payload_behind, payload_of};
@@ -16,7 +18,7 @@ pub struct Pid;
 #[derive(Drop)]
 pub struct ContinuityCounter;
 
-#[derive(Drop)]
+#[derive(Clone, Copy)]
 pub struct Header {
     pub transport_error_indicator: bool,
     pub payload_unit_start_indicator: bool,
@@ -28,14 +30,14 @@ pub struct Header {
 }
 
 // The header, or 3, 4.
-#[derive(Drop)]
+#[derive(Clone, Copy)]
 pub enum HeaderAnswer {
     Is(Header),
     Refused(Refusal),
 }
 
 // Where the payload starts (it goes on to the packet's end), or 3, 4, 6, 7, 8.
-#[derive(Drop)]
+#[derive(Clone, Copy)]
 pub enum Payload {
     At(usize),
     Refused(Refusal),

@@ -1,4 +1,6 @@
 // The walk over a PAT's body. The crate's src/psi/pat.rs.
+#![tactic(auto)]
+
 ghost use Rattle.std.specs.Prelude.{◌≡◌};
 ghost use Rattle.pat.specs.Programs.{program_says, program_at};
 
@@ -9,14 +11,14 @@ use fields::word;
 pub struct PatSection;
 
 // An entry: where the network's table is found, or a program and where its map is.
-#[derive(Drop)]
+#[derive(Clone, Copy)]
 pub enum ProgramDescriptor {
     Network { pid: u16 },
     Program { program_number: u16, pid: u16 },
 }
 
 // The entry and the position behind it; 24, and the offset in the body of the one to three bytes that are left; or 23, 26.
-#[derive(Drop)]
+#[derive(Clone, Copy)]
 pub enum ProgramAnswer {
     Is {
         program: ProgramDescriptor,

@@ -1,4 +1,6 @@
 // The start of a PMT's body, and the walk over its streams. The crate's src/psi/pmt.rs.
+#![tactic(auto)]
+
 ghost use Rattle.std.specs.Prelude.{◌≡◌};
 ghost use Rattle.pmt.specs.Start.{start_says, start_of};
 ghost use Rattle.pmt.specs.Streams.{stream_says, stream_at};
@@ -8,7 +10,7 @@ use fields::word;
 use psi::Place;
 
 // What a body begins with: the PCR PID, where the programme's descriptors lie, and where the streams start.
-#[derive(Drop)]
+#[derive(Clone, Copy)]
 pub struct PmtSection {
     pub pcr_pid: u16,
     pub descriptors: Place,
@@ -16,13 +18,13 @@ pub struct PmtSection {
 }
 
 // That, or 22 with the length that is needed and the body's own.
-#[derive(Drop)]
+#[derive(Clone, Copy)]
 pub enum PmtAnswer {
     Is(PmtSection),
     TooShort { needed: usize, actual: usize },
 }
 
-#[derive(Drop)]
+#[derive(Clone, Copy)]
 pub struct StreamInfo {
     pub stream_type: u8,
     pub elementary_pid: u16,
@@ -31,7 +33,7 @@ pub struct StreamInfo {
 
 // The stream and the position behind it; 27 or 28, and the offset in the body of the entry of which under 5 bytes are left, or whose info passes the end;
 // or 23, 26.
-#[derive(Drop)]
+#[derive(Clone, Copy)]
 pub enum StreamAnswer {
     Is { stream: StreamInfo, next: usize },
     Under5 { offset: usize },

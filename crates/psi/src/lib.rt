@@ -1,4 +1,6 @@
 // A section: its header, its table header, and where its body lies. The crate's src/psi/mod.rs.
+#![tactic(auto)]
+
 ghost use Rattle.std.specs.Prelude.{◌≡◌};
 ghost use Rattle.psi.specs.Header.{header_says, header_of, table_header_says, table_header_of};
 ghost use Rattle.psi.specs.Body.{body_says, body_of};
@@ -10,7 +12,7 @@ use fields::word;
 pub struct Section;
 
 // What every section begins with.
-#[derive(Drop)]
+#[derive(Clone, Copy)]
 pub struct SectionCommonHeader {
     pub table_id: u8,
     pub section_syntax_indicator: bool,
@@ -19,7 +21,7 @@ pub struct SectionCommonHeader {
 }
 
 // What follows it in a section whose syntax indicator is set. The indicator is set for current, clear for next.
-#[derive(Drop)]
+#[derive(Clone, Copy)]
 pub struct TableSyntaxHeader {
     pub id: u16,
     pub version: u8,
@@ -29,28 +31,28 @@ pub struct TableSyntaxHeader {
 }
 
 // A part of the bytes that a call was lent: so many from there on.
-#[derive(Drop)]
+#[derive(Clone, Copy)]
 pub struct Place {
     pub start: usize,
     pub len: usize,
 }
 
 // The section header, or 10.
-#[derive(Drop)]
+#[derive(Clone, Copy)]
 pub enum HeaderAnswer {
     Is(SectionCommonHeader),
     Refused(Refusal),
 }
 
 // The table header, or 12.
-#[derive(Drop)]
+#[derive(Clone, Copy)]
 pub enum TableHeaderAnswer {
     Is(TableSyntaxHeader),
     Refused(Refusal),
 }
 
 // Where the body lies, or 16.
-#[derive(Drop)]
+#[derive(Clone, Copy)]
 pub enum Body {
     At(Place),
     Refused(Refusal),

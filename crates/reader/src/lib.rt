@@ -1,4 +1,6 @@
 // The reader: its state, and the tail and head step that gather sections from packets. The crate's src/psi/mod.rs.
+#![tactic(auto)]
+
 ghost use Rattle.std.specs.Prelude.{◌≡◌, true, ◌+◌, ◌≤◌, ◌<◌, length, drop};
 ghost use Rattle.memory.specs.declared.Memory.{Memory};
 ghost use Rattle.memory_words.specs.Words.{memory_in};
@@ -26,7 +28,7 @@ use packet::Payload;
 use psi::Section;
 
 // The state.
-#[derive(Drop)]
+#[derive(Clone, Copy)]
 pub struct Reader {
     pub form: Form,
     pub memory: Memory,
@@ -36,7 +38,7 @@ pub struct Reader {
 }
 
 // A step's answer: its number, the state after it, and the place of a delivered section.
-#[derive(Drop)]
+#[derive(Clone, Copy)]
 pub struct Step {
     pub reader: Reader,
     pub place: Place,
@@ -45,7 +47,7 @@ pub struct Step {
 
 // The state without its memory. A step changes the memory by its answer alone, so what a step does inside carries this: with counts of two bytes it goes in
 // registers.
-#[derive(Drop)]
+#[derive(Clone, Copy)]
 pub struct Gathering {
     pub form: Form,
     pub is_open: bool,
@@ -54,7 +56,7 @@ pub struct Gathering {
 }
 
 // A step's answer without the memory.
-#[derive(Drop)]
+#[derive(Clone, Copy)]
 pub struct GatheringStep {
     pub gathering: Gathering,
     pub place: Place,
@@ -62,7 +64,7 @@ pub struct GatheringStep {
 }
 
 // What the payload's first byte says.
-#[derive(Drop)]
+#[derive(Clone, Copy)]
 pub enum Pointer {
     NoUnitStart,
     To(usize),

@@ -33,14 +33,14 @@ impl Fault {
 }
 
 // Where the next argument starts, and what was wrong with those before it.
-#[derive(Drop)]
+#[derive(Clone, Copy)]
 pub struct Cursor {
     pub at: usize,
     pub fault: u8,
 }
 
 // Bytes that were read, and the cursor behind them.
-#[derive(Drop)]
+#[derive(Clone, Copy)]
 pub struct Bytes {
     pub size: usize,
     pub at: usize,
@@ -48,7 +48,7 @@ pub struct Bytes {
 }
 
 // A number that was read, and the cursor behind it.
-#[derive(Drop)]
+#[derive(Clone, Copy)]
 pub struct Number {
     pub value: u64,
     pub at: usize,

@@ -16,7 +16,7 @@ impl Takes {
 
 // The number of the first call of each module, in the order of the names, and how many calls there are. The first four are asked at
 // a position.
-#[derive(Drop)]
+#[derive(Clone, Copy)]
 struct First;
 
 impl First {

@@ -11,7 +11,7 @@ use reader::{Form, Holder, Marks, Memory, Place, Reader, Step};
 pub const CALLS: u64 = 5;
 
 // The calls, by their numbers.
-#[derive(Drop)]
+#[derive(Clone, Copy)]
 struct Call;
 
 impl Call {
@@ -46,7 +46,7 @@ const STATE_LIMITS: [u64; STATE] = [
 const PLACE_LIMITS: [u64; 4] = [255, 2, 65535, 65535];
 
 // What a request gives, as far as it is read: what is kept, with what is given in its place, and whether bytes are to be shown.
-#[derive(Drop)]
+#[derive(Clone, Copy)]
 pub struct Given {
     pub kept: Kept,
     pub shows_bytes: bool,
@@ -55,7 +55,7 @@ pub struct Given {
 }
 
 // A step that was read, and the cursor behind it.
-#[derive(Drop)]
+#[derive(Clone, Copy)]
 struct StepRead {
     step: Step,
     at: usize,

@@ -5,7 +5,7 @@ use reader::{Form, Holder, Place, Reader, Step};
 pub const ROOM: usize = 131072;
 
 // The step that was worked last; how many bytes of the two rooms are the buffer and the packet; and where the text of the page ends.
-#[derive(Drop)]
+#[derive(Clone, Copy)]
 pub struct Kept {
     pub step: Step,
     pub buffer_size: usize,

@@ -1,4 +1,6 @@
 // Answers requests, a line for each. README.md beside src/ has the format of requests and answers.
+#![tactic(auto)]
+
 mod adaptation_fields;
 mod arguments;
 mod calls;
@@ -25,7 +27,7 @@ use requests::{answer_line, refused};
 const LINE: usize = 524800;
 
 // How far the input is answered: the bytes room[from..to] have come and are not answered yet.
-#[derive(Drop)]
+#[derive(Clone, Copy)]
 struct Run {
     kept: Kept,
     from: usize,

@@ -8,7 +8,7 @@ use pat::{PatSection, ProgramAnswer, ProgramDescriptor};
 use pmt::{PmtAnswer, PmtSection, StreamAnswer};
 
 // The calls, by their numbers. `pat` and `pmt` answer what the Rust crate shows: no positions but those of the parts.
-#[derive(Drop)]
+#[derive(Clone, Copy)]
 struct Call;
 
 impl Call {
@@ -30,7 +30,7 @@ impl Call {
 }
 
 // After an answer of a walk: where the line ends, and where the walk goes on, if it does.
-#[derive(Drop)]
+#[derive(Clone, Copy)]
 struct Turn {
     end: usize,
     position: usize,

@@ -5,7 +5,7 @@ use packet::Packet;
 
 // What the next bytes are: a packet; one that lacks its 0x47, though the packet behind it has its own; a byte that is of no packet;
 // too few bytes to tell.
-#[derive(Drop)]
+#[derive(Clone, Copy)]
 pub enum Kind {
     Packet,
     Damaged,
@@ -14,7 +14,7 @@ pub enum Kind {
 }
 
 // That, and how many bytes it takes.
-#[derive(Drop)]
+#[derive(Clone, Copy)]
 pub struct Found {
     pub kind: Kind,
     pub size: usize,

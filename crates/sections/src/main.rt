@@ -1,5 +1,7 @@
 // Prints the sections of one PID of a transport stream, as they come.
 // `sections --help` says how it is asked and what it prints.
+#![tactic(auto)]
+
 mod input;
 mod line_forms;
 mod lines;
@@ -23,7 +25,7 @@ const ROOM: usize = 65536;
 
 // How far the stream is worked: the bytes room[from..end] have come and are not worked yet. Out of step, `skipped` counts the
 // bytes since the last packet; in step it is 0.
-#[derive(Drop)]
+#[derive(Clone, Copy)]
 struct Run {
     reader: Reader,
     from: usize,
@@ -33,7 +35,7 @@ struct Run {
     is_failed: bool,
 }
 
-#[derive(Drop)]
+#[derive(Clone, Copy)]
 struct Got {
     count: usize,
     is_failed: bool,

@@ -35,7 +35,7 @@ impl FormLine {
 
 // What the words ask for. The file is the number of its word, 0 for none; `at` is the number of the last word that is no value. Until
 // the value of an option comes, the fault is that it is missing.
-#[derive(Drop)]
+#[derive(Clone, Copy)]
 pub struct Words {
     pub pid: u16,
     pub form: u64,

@@ -1,5 +1,7 @@
 // The two steps under their contracts, as a host calls them. The must-fail edits put the stubs of document 01, "How tight the contracts must be", in their
 // place. As the reader meets these contracts by its own, a stub that they refuse is refused by the reader's own too.
+#![tactic(auto)]
+
 ghost use Rattle.std.specs.Prelude.{◌≡◌};
 ghost use Rattle.reader.specs.Outcome.{outcome, answered};
 ghost use Rattle.reader.specs.Tail.{tail_of};

@@ -2,6 +2,8 @@
 //
 // Each `put_..` puts text behind the first `end` bytes of the page, and answers how many of its bytes are text then. A page that
 // is full is written to standard output and begun anew. What it has at the end, its `front`, is for the program to write.
+#![tactic(auto)]
+
 ghost use Rattle.std.specs.Prelude.{◌≡◌, ◌-◌, replicate};
 ghost use Rattle.text.specs.Page.{paged, text_on, with_byte, with_text};
 ghost use Rattle.text.specs.Digits.{blank, zero_character, digits};
