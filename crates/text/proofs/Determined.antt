@@ -9,23 +9,23 @@ use Rattle.text.proofs.put_decimal_left.Reads as put_decimal_left
 use Rattle.text.proofs.put_hexadecimal.Reads as put_hexadecimal
 use Rattle.text.proofs.front.Reads as front
 
-pub put_text_determined : DeterminesBoth put_text.Post (λ κs exit. exit.0.now)
+pub put_text_determined : DeterminesBoth put_text.Post (λ κs exit. exit.1.0.now)
 put_text_determined κs arguments x y x_exit y_exit p q =
     (ap (λ (page : Page). page.end) (p ∙ sym q), ap (λ (page : Page). page.bytes) (p ∙ sym q))
 
-pub put_repeated_determined : DeterminesBoth put_repeated.Post (λ κs exit. exit.0.now)
+pub put_repeated_determined : DeterminesBoth put_repeated.Post (λ κs exit. exit.1.0.now)
 put_repeated_determined κs arguments x y x_exit y_exit p q =
     (ap (λ (page : Page). page.end) (p ∙ sym q), ap (λ (page : Page). page.bytes) (p ∙ sym q))
 
-pub put_decimal_determined : DeterminesBoth put_decimal.Post (λ κs exit. exit.0.now)
+pub put_decimal_determined : DeterminesBoth put_decimal.Post (λ κs exit. exit.1.0.now)
 put_decimal_determined κs arguments x y x_exit y_exit p q =
     (ap (λ (page : Page). page.end) (p ∙ sym q), ap (λ (page : Page). page.bytes) (p ∙ sym q))
 
-pub put_decimal_left_determined : DeterminesBoth put_decimal_left.Post (λ κs exit. exit.0.now)
+pub put_decimal_left_determined : DeterminesBoth put_decimal_left.Post (λ κs exit. exit.1.0.now)
 put_decimal_left_determined κs arguments x y x_exit y_exit p q =
     (ap (λ (page : Page). page.end) (p ∙ sym q), ap (λ (page : Page). page.bytes) (p ∙ sym q))
 
-pub put_hexadecimal_determined : DeterminesBoth put_hexadecimal.Post (λ κs exit. exit.0.now)
+pub put_hexadecimal_determined : DeterminesBoth put_hexadecimal.Post (λ κs exit. exit.1.0.now)
 put_hexadecimal_determined κs arguments x y x_exit y_exit p q =
     (ap (λ (page : Page). page.end) (p ∙ sym q), ap (λ (page : Page). page.bytes) (p ∙ sym q))
 
