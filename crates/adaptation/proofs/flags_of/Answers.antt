@@ -5,7 +5,6 @@ use mathlib.Core.Path.{◌≡◌, refl, sym, ap, ◌∙◌}
 use mathlib.Core.List.{List}
 use native.Mathlib.Nat.{div-one}
 use native.Mathlib.Omega.{arith}
-use borrow.Author.Rules.{rules}
 use lib.ListN.{length, take, drop, length-take, length-drop, take-append-drop}
 use Rattle.fields.specs.Choice.{if◌then◌else◌}
 use Rattle.fields.specs.BitString.{number_at}
@@ -15,8 +14,7 @@ use Rattle.fields.proofs.BitStrings.{number_at_front}
 use Rattle.fields.proofs.SyntaxTables.{word_there, field_of_word}
 use Rattle.adaptation.specs.Syntax.{adaptation_field_flags}
 use Rattle.adaptation.specs.AdaptationField.{start, flags_of}
-use Rattle.adaptation.proofs.flags_of.Statement.{statement}
-use Rattle.adaptation.proofs.flags_of.Tie as tie
+use Rattle.adaptation.proofs.flags_of.Goals as goal
 
 -- a flag of a field of n bytes, from the word read where the field begins in its packet
 flag-of-word : (packet : List ℕ) (n word : ℕ) → 0 < n → start + n ≤ length packet → word ≡ word_of packet start 1 → (name : String)
@@ -31,19 +29,12 @@ flag-of-word packet n word some within is =
     (is ∙ word_there packet start 1 (omega arith) (omega arith) ∙ ap (number_at 0 8) (sym (take-append-drop n behind_start))
     ∙ number_at_front bytes (drop n behind_start) 0 8 (omega arith) ∙ sym (word_there bytes 0 1 (omega arith) (omega arith)))
 
-word-requires : tie.Need-word-requires
-word-requires c κs = search rules
-
-returns : tie.Need-returns
+pub returns : goal.returns
 unfolding flags_of if◌then◌else◌ size behind width
 returns c =
-    let asked = c.before.before in
-    let n = asked.args.n in
+    let n = c.args.n in
     simp (
-      ← asked.requires.1,
-      flag-of-word asked.args.packet.now n c.word.result (omega arith) (omega arith) c.word.ensures,
+      ← c.requires.1,
+      flag-of-word c.args.packet.now n c.word-bits.result (omega arith) (omega arith) c.word-bits.ensures,
       div-one,
     )
-
-pub flags-of-spec : {M : Type 1} → statement M
-flags-of-spec = tie.close (tie.spec word-requires returns)
