@@ -173,7 +173,8 @@ run_keeps reader buffer [] is_sound lent = tt
 run_keeps reader buffer (packet ∷ packets) is_sound lent =
     let t = tail_keeps reader packet buffer is_sound lent in
     let h = head_keeps _ packet _ t.sound_state t.lent in
-    (t, h, run_keeps _ _ packets h.sound_state h.lent)
+    let left = head_of (tail_of reader packet buffer).step.reader packet (tail_of reader packet buffer).buffer in
+    (t, h, run_keeps left.step.reader left.buffer packets h.sound_state h.lent)
 
 every_step : (P Q : Outcome → Type 0) → ((o : Outcome) → P o → Q o) → (ws : List Worked) → EveryStep P ws → EveryStep Q ws
 unfolding EveryStep
