@@ -2,10 +2,11 @@
 // The list is vector after vector: the number of bytes, the bytes, their CRC. Numbers have four bytes, most significant first.
 #![tactic(auto)]
 
-ghost use Rattle.std.specs.Prelude.{◌≡◌, ◌+◌, ◌≤◌, ◌<◌, length};
+ghost use Rattle.std.specs.Prelude.{◌≡◌, ◌+◌, ◌≤◌, ◌<◌, length, IfOk};
 
 use fields::word;
-use libc::{STDIN_FILENO, STDOUT_FILENO};
+use std::io;
+use std::io::{Print, Read, Stdin, Stdout};
 use text::{front, put_decimal, put_hexadecimal, put_text};
 
 // How far the list was compared.
@@ -22,17 +23,32 @@ const ROOM: usize = 131072;
 // Room for a line.
 const LINE: usize = 128;
 
-fn main() {
+fn main(rt: HostRuntime) -> io::Result<()> {
+    let out = rt.stdout();
     let mut list = [0u8; ROOM];
-    let size = io::read_full(STDIN_FILENO, &mut list);
+    let size = read_full(rt.stdin(), &mut list)?;
     if size == ROOM {
-        say(b"The list is too long for this program.\n");
-        return;
+        return out.write_all(b"The list is too long for this program.\n");
     }
-    compare_all(&list[..size]);
+    compare_all(out, &list[..size])
 }
 
-fn compare_all(list: &[u8]) {
+// Reads until the room is full or the input ends, and answers how many bytes came.
+fn read_full(mut input: Stdin, room: &mut [u8]) -> io::Result<usize>
+    ensures { IfOk result (λ count. count ≤ length room.new) }
+{
+    let mut count = 0;
+    while count < room.len() {
+        let more = input.read(&mut room[count..])?;
+        if more == 0 {
+            return Ok(count);
+        }
+        count += more;
+    }
+    Ok(count)
+}
+
+fn compare_all(out: Stdout, list: &[u8]) -> io::Result<()> {
     let mut tally = Tally {
         at: 0,
         compared: 0,
@@ -40,13 +56,13 @@ fn compare_all(list: &[u8]) {
         cut_short: false,
     };
     while tally.at < list.len() {
-        tally = compare_next(list, tally);
+        tally = compare_next(out, list, tally);
     }
-    say_tally(tally);
+    say_tally(out, tally)
 }
 
 // Compares the vector at the tally's place, and goes on behind it.
-fn compare_next(list: &[u8], tally: Tally) -> Tally
+fn compare_next(out: Stdout, list: &[u8], tally: Tally) -> Tally
     requires at_in_bounds { tally.at < length list.now }
     requires compared_le_at { (tally.compared ≤ tally.at) × (tally.differ ≤ tally.compared) }
     ensures at_lt_at { (tally.at < result.at) × (result.at ≤ length list.now) }
@@ -65,6 +81,7 @@ fn compare_next(list: &[u8], tally: Tally) -> Tally
     let to = from + count;
     let compared = tally.compared + 1;
     let differs = compare(
+        out,
         compared,
         mpegts_crc::sum32(&list[from..to]) as u64,
         word(list, to, 4),
@@ -89,42 +106,39 @@ fn cut_short(size: usize, tally: Tally) -> Tally
 }
 
 // 1 where the two differ, and then it says so.
-fn compare(vector: usize, found: u64, listed: u64) -> usize
+fn compare(out: Stdout, vector: usize, found: u64, listed: u64) -> usize
     ensures { result < 2 }
 {
     if found == listed {
         return 0;
     }
-    say_difference(vector as u64, found, listed);
+    say_difference(out, vector as u64, found, listed);
     1
 }
 
-fn say_difference(vector: u64, found: u64, listed: u64) {
+// A write that fails goes on failing, so that of the tally tells of it.
+fn say_difference(out: Stdout, vector: u64, found: u64, listed: u64) {
     let mut room = [0u8; LINE];
     let line: &mut [u8] = &mut room;
-    let mut end = put_text(line, 0, b"Vector ");
-    end = put_decimal(line, end, vector, 0);
-    end = put_text(line, end, b": ");
-    end = put_hexadecimal(line, end, found, 8);
-    end = put_text(line, end, b", and the list has ");
-    end = put_hexadecimal(line, end, listed, 8);
-    end = put_text(line, end, b".\n");
-    say(front(line, end));
+    let mut end = put_text(out, line, 0, b"Vector ");
+    end = put_decimal(out, line, end, vector, 0);
+    end = put_text(out, line, end, b": ");
+    end = put_hexadecimal(out, line, end, found, 8);
+    end = put_text(out, line, end, b", and the list has ");
+    end = put_hexadecimal(out, line, end, listed, 8);
+    end = put_text(out, line, end, b".\n");
+    let _ = out.write_all(front(line, end));
 }
 
-fn say_tally(tally: Tally) {
+fn say_tally(out: Stdout, tally: Tally) -> io::Result<()> {
     if tally.cut_short {
-        say(b"The list is cut short.\n");
+        out.write_all(b"The list is cut short.\n")?;
     }
     let mut room = [0u8; LINE];
     let line: &mut [u8] = &mut room;
-    let mut end = put_decimal(line, 0, tally.compared as u64, 0);
-    end = put_text(line, end, b" compared, ");
-    end = put_decimal(line, end, tally.differ as u64, 0);
-    end = put_text(line, end, b" differ.\n");
-    say(front(line, end));
-}
-
-fn say(text: &[u8]) {
-    io::write_all(STDOUT_FILENO, text);
+    let mut end = put_decimal(out, line, 0, tally.compared as u64, 0);
+    end = put_text(out, line, end, b" compared, ");
+    end = put_decimal(out, line, end, tally.differ as u64, 0);
+    end = put_text(out, line, end, b" differ.\n");
+    out.write_all(front(line, end))
 }

@@ -1,10 +1,10 @@
 // The adaptation field of a packet, and the parts behind its flags.
 use crate::line;
-use crate::line::GIVEN;
+use crate::line::{GIVEN, Page};
 use adaptation::{AdaptationField, AdaptationFieldAnswer};
 use adaptation_parts::{ClockAnswer, SpliceCountdown, TransportPrivateData};
 
-pub fn put(call: u64, packet: &[u8], page: &mut [u8; line::PAGE], end: usize) -> usize {
+pub fn put(call: u64, packet: &[u8], page: &mut Page, end: usize) -> usize {
     match call {
         0 => put_field(packet, page, end),
         1 => put_clock(adaptation_parts::pcr(packet), page, end),
@@ -14,7 +14,7 @@ pub fn put(call: u64, packet: &[u8], page: &mut [u8; line::PAGE], end: usize) ->
     }
 }
 
-fn put_field(packet: &[u8], page: &mut [u8; line::PAGE], end: usize) -> usize {
+fn put_field(packet: &[u8], page: &mut Page, end: usize) -> usize {
     match AdaptationField::of(packet) {
         AdaptationFieldAnswer::Refused(refusal) => line::put_refusal(page, end, refusal),
         AdaptationFieldAnswer::Is(field) => line::put_numbers(
@@ -36,7 +36,7 @@ fn put_field(packet: &[u8], page: &mut [u8; line::PAGE], end: usize) -> usize {
     }
 }
 
-fn put_clock(answer: ClockAnswer, page: &mut [u8; line::PAGE], end: usize) -> usize {
+fn put_clock(answer: ClockAnswer, page: &mut Page, end: usize) -> usize {
     match answer {
         ClockAnswer::Refused(refusal) => line::put_refusal(page, end, refusal),
         ClockAnswer::Is(clock) => {
@@ -45,7 +45,7 @@ fn put_clock(answer: ClockAnswer, page: &mut [u8; line::PAGE], end: usize) -> us
     }
 }
 
-fn put_splice_countdown(packet: &[u8], page: &mut [u8; line::PAGE], end: usize) -> usize {
+fn put_splice_countdown(packet: &[u8], page: &mut Page, end: usize) -> usize {
     match adaptation_parts::splice_countdown(packet) {
         SpliceCountdown::Refused(refusal) => line::put_refusal(page, end, refusal),
         SpliceCountdown::Is(countdown) => {
@@ -54,7 +54,7 @@ fn put_splice_countdown(packet: &[u8], page: &mut [u8; line::PAGE], end: usize) 
     }
 }
 
-fn put_private_data(packet: &[u8], page: &mut [u8; line::PAGE], end: usize) -> usize {
+fn put_private_data(packet: &[u8], page: &mut Page, end: usize) -> usize {
     match adaptation_parts::transport_private_data(packet) {
         TransportPrivateData::Refused(refusal) => line::put_refusal(page, end, refusal),
         TransportPrivateData::At(place) => {

@@ -1,5 +1,6 @@
 // The calls that only read. A request names one of them, or several with a comma between two.
 use crate::arguments::{OVER, line_of, next, part};
+use crate::line::Page;
 use crate::{adaptation_fields, crc, line, packets, sections, walks};
 
 // What the calls of a list are asked of: bytes, or a position and bytes.
@@ -84,13 +85,7 @@ fn taken_with(before: u8, call: u64) -> u8 {
 }
 
 // Puts the answers of the calls one behind the other.
-pub fn put_all(
-    list: &[u8],
-    position: usize,
-    bytes: &[u8],
-    page: &mut [u8; line::PAGE],
-    start: usize,
-) -> usize {
+pub fn put_all(list: &[u8], position: usize, bytes: &[u8], page: &mut Page, start: usize) -> usize {
     let mut end = put_call(call_of(part(list, 0, b',')), position, bytes, page, start);
     let mut at = next(list, 0, b',');
     while at < OVER {
@@ -101,13 +96,7 @@ pub fn put_all(
     end
 }
 
-fn put_call(
-    call: u64,
-    position: usize,
-    bytes: &[u8],
-    page: &mut [u8; line::PAGE],
-    end: usize,
-) -> usize {
+fn put_call(call: u64, position: usize, bytes: &[u8], page: &mut Page, end: usize) -> usize {
     if call < First::OF_PACKETS {
         return walks::put(call, position, bytes, page, end);
     }

@@ -3,6 +3,7 @@ ghost use Rattle.std.specs.Prelude.{◌<◌};
 
 use crate::arguments::{Bytes, Fault, OVER, byte, least, line_of, word};
 use crate::kept::{Kept, ROOM};
+use crate::line::Page;
 use crate::{arguments, line};
 use answers::Answer;
 use reader::{Form, Holder, Marks, Memory, Place, Reader, Step};
@@ -249,13 +250,7 @@ fn holder_number(holder: Holder) -> u64 {
 }
 
 // Makes the call, and puts all that it leaves.
-pub fn worked(
-    call: u64,
-    given: Given,
-    packet: &[u8],
-    buffer: &mut [u8],
-    page: &mut [u8; line::PAGE],
-) -> Kept {
+pub fn worked(call: u64, given: Given, packet: &[u8], buffer: &mut [u8], page: &mut Page) -> Kept {
     let kept = given.kept;
     let lent = line::front(packet, kept.packet_size);
     let step = called(call, kept.step, lent, buffer, kept.buffer_size);
@@ -294,7 +289,7 @@ fn put_step<'a>(
     packet: &'a [u8],
     buffer: &'a [u8],
     shows_bytes: bool,
-    page: &mut [u8; line::PAGE],
+    page: &mut Page,
     start: usize,
 ) -> usize {
     let section = reader::section(packet, buffer, step.answer, step.place);
@@ -309,7 +304,7 @@ fn put_step<'a>(
 }
 
 // The answer, the state, whether it is sound, and the place.
-fn put_state(step: Step, page: &mut [u8; line::PAGE], end: usize) -> usize {
+fn put_state(step: Step, page: &mut Page, end: usize) -> usize {
     let reader = step.reader;
     let form = reader.form;
     let memory = reader.memory;
@@ -339,19 +334,13 @@ fn put_state(step: Step, page: &mut [u8; line::PAGE], end: usize) -> usize {
 }
 
 // Works both steps of the reader that is kept. What the tail step delivers is put before the head step lays bytes into the buffer.
-pub fn fed(kept: Kept, packet: &[u8], buffer: &mut [u8], page: &mut [u8; line::PAGE]) -> Kept {
+pub fn fed(kept: Kept, packet: &[u8], buffer: &mut [u8], page: &mut Page) -> Kept {
     let tail = fed_to(Call::TAIL, kept, packet, buffer, page);
     let between = tail.with_end(line::put_text(page, tail.end, b" "));
     fed_to(Call::HEAD, between, packet, buffer, page)
 }
 
-fn fed_to(
-    call: u64,
-    kept: Kept,
-    packet: &[u8],
-    buffer: &mut [u8],
-    page: &mut [u8; line::PAGE],
-) -> Kept {
+fn fed_to(call: u64, kept: Kept, packet: &[u8], buffer: &mut [u8], page: &mut Page) -> Kept {
     let lent = line::front(packet, kept.packet_size);
     let step = called(call, kept.step, lent, buffer, kept.buffer_size);
     let after = line::front(buffer, kept.buffer_size);
@@ -363,7 +352,7 @@ fn put_shown<'a>(
     step: Step,
     packet: &'a [u8],
     buffer: &'a [u8],
-    page: &mut [u8; line::PAGE],
+    page: &mut Page,
     end: usize,
 ) -> usize {
     let answer = step.answer;

@@ -3,9 +3,24 @@ ghost use Rattle.std.specs.Prelude.{◌≤◌, ◌<◌, length};
 
 use answers::Refusal;
 use fields::word;
+use std::io::Stdout;
 
 // How many bytes the page has.
-pub const PAGE: usize = 65536;
+const PAGE: usize = 65536;
+
+// The page, and where it is written.
+#[derive(Drop)]
+pub struct Page {
+    pub out: Stdout,
+    pub bytes: [u8; PAGE],
+}
+
+pub fn empty_page(out: Stdout) -> Page {
+    Page {
+        out,
+        bytes: [0u8; PAGE],
+    }
+}
 
 // The number of an answer that refuses nothing.
 pub const GIVEN: u64 = 0;
@@ -18,8 +33,8 @@ const MOST_SUMMED: usize = 1048576;
 
 // Each `put..` adds to the text of the page, which ends at `end`, and answers where it ends then. (These two say less than those of
 // `text`: nothing here is proved of what is written, and each call is then proved in less time.)
-pub fn put_text(page: &mut [u8; PAGE], end: usize, text: &[u8]) -> usize {
-    text::put_text(page, end, text)
+pub fn put_text(page: &mut Page, end: usize, text: &[u8]) -> usize {
+    text::put_text(page.out, &mut page.bytes, end, text)
 }
 
 // The first bytes, so many.
@@ -27,7 +42,7 @@ pub fn front(bytes: &[u8], count: usize) -> &[u8] {
     text::front(bytes, count)
 }
 
-pub fn put_numbers(page: &mut [u8; PAGE], mut end: usize, numbers: &[u64]) -> usize {
+pub fn put_numbers(page: &mut Page, mut end: usize, numbers: &[u64]) -> usize {
     let mut i = 0;
     while i < numbers.len() {
         end = put_next(page, end, i == 0, numbers[i]);
@@ -37,27 +52,27 @@ pub fn put_numbers(page: &mut [u8; PAGE], mut end: usize, numbers: &[u64]) -> us
 }
 
 // A blank stands between two numbers.
-fn put_next(page: &mut [u8; PAGE], end: usize, is_first: bool, n: u64) -> usize {
+fn put_next(page: &mut Page, end: usize, is_first: bool, n: u64) -> usize {
     if is_first {
-        return text::put_decimal(page, end, n, 1);
+        return text::put_decimal(page.out, &mut page.bytes, end, n, 1);
     }
     let start = put_text(page, end, b" ");
-    text::put_decimal(page, start, n, 1)
+    text::put_decimal(page.out, &mut page.bytes, start, n, 1)
 }
 
 // What is not given has no values.
-pub fn put_refusal(page: &mut [u8; PAGE], end: usize, refusal: Refusal) -> usize {
+pub fn put_refusal(page: &mut Page, end: usize, refusal: Refusal) -> usize {
     put_numbers(page, end, &[refusal.number() as u64])
 }
 
 // How many bytes there are, and their digest.
-pub fn put_digest(page: &mut [u8; PAGE], end: usize, bytes: &[u8]) -> usize {
+pub fn put_digest(page: &mut Page, end: usize, bytes: &[u8]) -> usize {
     let start = put_text(page, end, b" ");
     put_numbers(page, start, &[bytes.len() as u64, adler32(bytes)])
 }
 
 // The bytes in hexadecimal, - where there are none.
-pub fn put_bytes(page: &mut [u8; PAGE], end: usize, bytes: &[u8]) -> usize {
+pub fn put_bytes(page: &mut Page, end: usize, bytes: &[u8]) -> usize {
     let start = put_text(page, end, b" ");
     if bytes.len() == 0 {
         return put_text(page, start, b"-");
@@ -66,11 +81,17 @@ pub fn put_bytes(page: &mut [u8; PAGE], end: usize, bytes: &[u8]) -> usize {
 }
 
 // Eight bytes at a time, and the last ones alone.
-fn put_hexadecimal(page: &mut [u8; PAGE], mut end: usize, bytes: &[u8]) -> usize {
+fn put_hexadecimal(page: &mut Page, mut end: usize, bytes: &[u8]) -> usize {
     let mut i = 0;
     while i < bytes.len() {
         let count = at_most_8(bytes.len() - i);
-        end = text::put_hexadecimal(page, end, word(bytes, i, count), 2 * count);
+        end = text::put_hexadecimal(
+            page.out,
+            &mut page.bytes,
+            end,
+            word(bytes, i, count),
+            2 * count,
+        );
         i += count;
     }
     end

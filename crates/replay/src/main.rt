@@ -13,15 +13,16 @@ mod requests;
 mod sections;
 mod walks;
 
-ghost use Rattle.std.specs.Prelude.{◌+◌, ◌≤◌, length};
+ghost use Rattle.std.specs.Prelude.{◌+◌, ◌≤◌, length, IfOk};
 ghost use Rattle.replay.specs.Within.{Within};
 
 use arguments::{Fault, between, mark_from};
 use kept::{Kept, ROOM};
-use libc::{STDIN_FILENO, STDOUT_FILENO};
-use line::PAGE;
+use line::Page;
 use reader::Form;
 use requests::{answer_line, refused};
+use std::io;
+use std::io::{Print, Read, Stdin};
 
 // The longest line: the largest buffer and packet, two digits for a byte, and room for the words and numbers.
 const LINE: usize = 524800;
@@ -35,21 +36,22 @@ struct Run {
     is_over: bool,
 }
 
-fn main() {
+fn main(rt: HostRuntime) -> io::Result<()> {
     let mut room = [0u8; LINE];
     let mut packet = [0u8; ROOM];
     let mut buffer = [0u8; ROOM];
-    let mut page = [0u8; PAGE];
-    answer_all(&mut room, &mut packet, &mut buffer, &mut page);
+    let mut page = line::empty_page(rt.stdout());
+    answer_all(rt.stdin(), &mut room, &mut packet, &mut buffer, &mut page)
 }
 
 // A proved loop has to end, and nothing says that the input does. So it counts its turns down, from a number that no run uses up.
 fn answer_all(
+    input: Stdin,
     room: &mut [u8; LINE],
     packet: &mut [u8; ROOM],
     buffer: &mut [u8; ROOM],
-    page: &mut [u8; PAGE],
-) {
+    page: &mut Page,
+) -> io::Result<()> {
     let mut run = Run {
         kept: kept::anew(Form::Compact, 0, 0),
         from: 0,
@@ -58,35 +60,37 @@ fn answer_all(
     };
     let mut turns = u64::MAX;
     while turns > 0 && !run.is_over {
-        run = answer_next(run, room, packet, buffer, page);
+        run = answer_next(run, input, room, packet, buffer, page)?;
         turns -= 1;
     }
+    Ok(())
 }
 
 // Answers the next line, or reads on.
 fn answer_next(
     run: Run,
+    input: Stdin,
     room: &mut [u8; LINE],
     packet: &mut [u8; ROOM],
     buffer: &mut [u8; ROOM],
-    page: &mut [u8; PAGE],
-) -> Run
+    page: &mut Page,
+) -> io::Result<Run>
     requires { Within run }
-    ensures { Within result }
+    ensures { IfOk result (λ after. Within after) }
 {
     let from = run.from;
     let to = run.to;
     let end = line_end(room, from, to);
     if end < to {
         let kept = answer_line(between(room, from, end), run.kept, packet, buffer, page);
-        return Run {
+        return Ok(Run {
             kept,
             from: end + 1,
             to,
             is_over: false,
-        };
+        });
     }
-    read_on(run, room, page)
+    read_on(run, input, room, page)
 }
 
 // Where the line ends that starts there; `to` where its end has not come.
@@ -99,29 +103,29 @@ fn line_end(room: &[u8], from: usize, to: usize) -> usize
 
 // Writes the answers, and reads more behind the bytes that have come. Where nothing more comes, or there is no room for it, the line
 // that has no end is the last.
-fn read_on(run: Run, room: &mut [u8; LINE], page: &mut [u8; PAGE]) -> Run
+fn read_on(run: Run, input: Stdin, room: &mut [u8; LINE], page: &mut Page) -> io::Result<Run>
     requires { Within run }
-    ensures { Within result }
+    ensures { IfOk result (λ after. Within after) }
 {
-    let kept = written(run.kept, page);
+    let kept = written(run.kept, page)?;
     let from = run.from;
     let left = run.to - from;
     move_down(room, from, left);
-    let count = read_behind(room, left);
+    let count = read_behind(input, room, left)?;
     if count == 0 {
-        end(left, page);
+        end(left, page)?;
     }
-    Run {
+    Ok(Run {
         kept,
         from: 0,
         to: left + count,
         is_over: count == 0,
-    }
+    })
 }
 
-fn written(kept: Kept, page: &[u8; PAGE]) -> Kept {
-    io::write_all(STDOUT_FILENO, line::front(page, kept.end));
-    kept.with_end(0)
+fn written(kept: Kept, page: &Page) -> io::Result<Kept> {
+    page.out.write_all(line::front(&page.bytes, kept.end))?;
+    Ok(kept.with_end(0))
 }
 
 // Moves so many bytes to the room's start.
@@ -136,18 +140,17 @@ fn move_down(room: &mut [u8; LINE], from: usize, count: usize)
 }
 
 // Reads behind so many bytes of the room, and answers how many came.
-fn read_behind(room: &mut [u8], left: usize) -> usize
+fn read_behind(mut input: Stdin, room: &mut [u8], left: usize) -> io::Result<usize>
     requires { left ≤ length room.old }
-    ensures { left + result ≤ length room.new }
+    ensures { IfOk result (λ count. left + count ≤ length room.new) }
 {
-    let got = libc::read(STDIN_FILENO, &mut room[left..]);
-    io::count(got, &room[left..])
+    input.read(&mut room[left..])
 }
 
 // The input is over, save so many bytes of a line.
-fn end(left: usize, page: &mut [u8; PAGE]) {
+fn end(left: usize, page: &mut Page) -> io::Result<()> {
     if left == 0 {
-        return;
+        return Ok(());
     }
     let fault = if left < LINE {
         Fault::NO_END
@@ -155,6 +158,6 @@ fn end(left: usize, page: &mut [u8; PAGE]) {
         Fault::TOO_LONG
     };
     let kept = refused(fault, page, 0);
-    written(kept, page);
-    io::write_all(STDOUT_FILENO, b"\n");
+    written(kept, page)?;
+    page.out.write_all(b"\n")
 }

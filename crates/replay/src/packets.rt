@@ -1,9 +1,9 @@
 // A packet's header, its payload, and its counter.
-use crate::line::GIVEN;
+use crate::line::{GIVEN, Page};
 use crate::{arguments, line};
 use packet::{ContinuityCounter, HeaderAnswer, Packet, Payload};
 
-pub fn put(call: u64, packet: &[u8], page: &mut [u8; line::PAGE], end: usize) -> usize {
+pub fn put(call: u64, packet: &[u8], page: &mut Page, end: usize) -> usize {
     match call {
         0 => put_header(packet, page, end),
         1 => put_payload(packet, page, end),
@@ -11,7 +11,7 @@ pub fn put(call: u64, packet: &[u8], page: &mut [u8; line::PAGE], end: usize) ->
     }
 }
 
-fn put_header(packet: &[u8], page: &mut [u8; line::PAGE], end: usize) -> usize {
+fn put_header(packet: &[u8], page: &mut Page, end: usize) -> usize {
     match Packet::header(packet) {
         HeaderAnswer::Refused(refusal) => line::put_refusal(page, end, refusal),
         HeaderAnswer::Is(header) => line::put_numbers(
@@ -31,7 +31,7 @@ fn put_header(packet: &[u8], page: &mut [u8; line::PAGE], end: usize) -> usize {
     }
 }
 
-fn put_payload(packet: &[u8], page: &mut [u8; line::PAGE], end: usize) -> usize {
+fn put_payload(packet: &[u8], page: &mut Page, end: usize) -> usize {
     match Packet::payload(packet) {
         Payload::Refused(refusal) => line::put_refusal(page, end, refusal),
         Payload::At(start) => line::put_numbers(page, end, &[GIVEN, start as u64]),
@@ -39,13 +39,13 @@ fn put_payload(packet: &[u8], page: &mut [u8; line::PAGE], end: usize) -> usize 
 }
 
 // What number() says of the payload's answer.
-fn put_payload_number(packet: &[u8], page: &mut [u8; line::PAGE], end: usize) -> usize {
+fn put_payload_number(packet: &[u8], page: &mut Page, end: usize) -> usize {
     let answer = Packet::payload(packet);
     line::put_numbers(page, end, &[answer.number() as u64])
 }
 
 // Whether a counter follows another.
-pub fn put_follows(counter: u64, other: u64, page: &mut [u8; line::PAGE], end: usize) -> usize {
+pub fn put_follows(counter: u64, other: u64, page: &mut Page, end: usize) -> usize {
     let follows = ContinuityCounter::follows(arguments::byte(counter), arguments::byte(other));
     line::put_numbers(page, end, &[GIVEN, follows as u64])
 }

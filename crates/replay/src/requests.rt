@@ -2,7 +2,7 @@
 use crate::arguments::{Fault, OVER, line_at, line_of, next, part, read_bytes, read_number};
 use crate::calls::Takes;
 use crate::kept::{Kept, ROOM};
-use crate::line::{GIVEN, PAGE};
+use crate::line::{GIVEN, Page};
 use crate::{calls, gathering, kept, line, packets};
 use reader::{Form, Reader};
 
@@ -12,7 +12,7 @@ pub fn answer_line(
     kept: Kept,
     packet: &mut [u8; ROOM],
     buffer: &mut [u8; ROOM],
-    page: &mut [u8; PAGE],
+    page: &mut Page,
 ) -> Kept {
     let after = answer(line, kept, packet, buffer, page);
     after.with_end(line::put_text(page, after.end, b"\n"))
@@ -27,7 +27,7 @@ fn is_comment(line: &[u8]) -> bool {
 }
 
 // A line that is no request is answered with what is wrong with it, and nothing is kept behind it.
-pub fn refused(fault: u8, page: &mut [u8; PAGE], start: usize) -> Kept {
+pub fn refused(fault: u8, page: &mut Page, start: usize) -> Kept {
     // in the order of their numbers
     let faults = b"\n\
         there is no such call\n\
@@ -50,7 +50,7 @@ fn answer(
     kept: Kept,
     packet: &mut [u8; ROOM],
     buffer: &mut [u8; ROOM],
-    page: &mut [u8; PAGE],
+    page: &mut Page,
 ) -> Kept {
     if is_comment(line) {
         return kept.with_end(line::put_text(page, kept.end, line));
@@ -77,7 +77,7 @@ fn answer_reader(
     kept: Kept,
     packet: &mut [u8; ROOM],
     buffer: &mut [u8; ROOM],
-    page: &mut [u8; PAGE],
+    page: &mut Page,
 ) -> Kept {
     let given = gathering::given_all(line, start, kept, packet, buffer);
     if given.fault != Fault::NONE {
@@ -93,7 +93,7 @@ fn answer_feed(
     kept: Kept,
     packet: &mut [u8; ROOM],
     buffer: &mut [u8; ROOM],
-    page: &mut [u8; PAGE],
+    page: &mut Page,
 ) -> Kept {
     let bytes = read_bytes(line, start, packet);
     let fault = of_the_last(bytes.at, bytes.fault);
@@ -120,7 +120,7 @@ fn answer_begin(
     start: usize,
     kept: Kept,
     buffer: &mut [u8; ROOM],
-    page: &mut [u8; PAGE],
+    page: &mut Page,
 ) -> Kept {
     let form = read_number(line, start, 2);
     let fault = of_the_last(form.at, form.fault);
@@ -140,7 +140,7 @@ fn clear(buffer: &mut [u8; ROOM]) {
     }
 }
 
-fn answer_follows(line: &[u8], start: usize, kept: Kept, page: &mut [u8; PAGE]) -> Kept {
+fn answer_follows(line: &[u8], start: usize, kept: Kept, page: &mut Page) -> Kept {
     let counter = read_number(line, start, 255);
     if counter.fault != Fault::NONE {
         return refused(counter.fault, page, kept.end);
@@ -161,7 +161,7 @@ fn answer_calls(
     start: usize,
     kept: Kept,
     packet: &mut [u8; ROOM],
-    page: &mut [u8; PAGE],
+    page: &mut Page,
 ) -> Kept {
     let takes = calls::taken_by(list);
     if takes == Takes::NO_CALL {
@@ -184,7 +184,7 @@ fn answer_bytes(
     start: usize,
     kept: Kept,
     packet: &mut [u8; ROOM],
-    page: &mut [u8; PAGE],
+    page: &mut Page,
 ) -> Kept {
     let bytes = read_bytes(line, start, packet);
     let fault = of_the_last(bytes.at, bytes.fault);
@@ -200,13 +200,7 @@ fn answer_bytes(
     )
 }
 
-fn put_calls(
-    list: &[u8],
-    position: usize,
-    kept: Kept,
-    packet: &[u8],
-    page: &mut [u8; PAGE],
-) -> Kept {
+fn put_calls(list: &[u8], position: usize, kept: Kept, packet: &[u8], page: &mut Page) -> Kept {
     let bytes = line::front(packet, kept.packet_size);
     let end = calls::put_all(list, position, bytes, page, kept.end);
     kept.with_end(end)

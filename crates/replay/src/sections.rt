@@ -1,9 +1,9 @@
 // A section's header, table header and body.
 use crate::line;
-use crate::line::GIVEN;
+use crate::line::{GIVEN, Page};
 use psi::{Body, HeaderAnswer, Section, TableHeaderAnswer};
 
-pub fn put(call: u64, section: &[u8], page: &mut [u8; line::PAGE], end: usize) -> usize {
+pub fn put(call: u64, section: &[u8], page: &mut Page, end: usize) -> usize {
     match call {
         0 => put_header(section, page, end),
         1 => put_table_header(section, page, end),
@@ -11,7 +11,7 @@ pub fn put(call: u64, section: &[u8], page: &mut [u8; line::PAGE], end: usize) -
     }
 }
 
-fn put_header(bytes: &[u8], page: &mut [u8; line::PAGE], end: usize) -> usize {
+fn put_header(bytes: &[u8], page: &mut Page, end: usize) -> usize {
     match Section::header(bytes) {
         HeaderAnswer::Refused(refusal) => line::put_refusal(page, end, refusal),
         HeaderAnswer::Is(header) => line::put_numbers(
@@ -28,7 +28,7 @@ fn put_header(bytes: &[u8], page: &mut [u8; line::PAGE], end: usize) -> usize {
     }
 }
 
-fn put_table_header(section: &[u8], page: &mut [u8; line::PAGE], end: usize) -> usize {
+fn put_table_header(section: &[u8], page: &mut Page, end: usize) -> usize {
     match Section::table_header(section) {
         TableHeaderAnswer::Refused(refusal) => line::put_refusal(page, end, refusal),
         TableHeaderAnswer::Is(header) => line::put_numbers(
@@ -46,7 +46,7 @@ fn put_table_header(section: &[u8], page: &mut [u8; line::PAGE], end: usize) -> 
     }
 }
 
-fn put_body(section: &[u8], page: &mut [u8; line::PAGE], end: usize) -> usize {
+fn put_body(section: &[u8], page: &mut Page, end: usize) -> usize {
     match Section::body(section) {
         Body::Refused(refusal) => line::put_refusal(page, end, refusal),
         Body::At(place) => {

@@ -2,7 +2,7 @@
 ghost use Rattle.std.specs.Prelude.{◌≤◌, length};
 
 use crate::line;
-use crate::line::GIVEN;
+use crate::line::{GIVEN, Page};
 use answers::Answer;
 use pat::{PatSection, ProgramAnswer, ProgramDescriptor};
 use pmt::{PmtAnswer, PmtSection, StreamAnswer};
@@ -37,13 +37,7 @@ struct Turn {
     goes_on: bool,
 }
 
-pub fn put(
-    call: u64,
-    position: usize,
-    body: &[u8],
-    page: &mut [u8; line::PAGE],
-    end: usize,
-) -> usize {
+pub fn put(call: u64, position: usize, body: &[u8], page: &mut Page, end: usize) -> usize {
     match call {
         Call::PROGRAMS => put_walk(Call::PROGRAM_AT, position, body, page, end),
         Call::STREAMS => put_walk(Call::STREAM_AT, position, body, page, end),
@@ -54,13 +48,7 @@ pub fn put(
     }
 }
 
-fn put_one(
-    call: u64,
-    position: usize,
-    body: &[u8],
-    page: &mut [u8; line::PAGE],
-    end: usize,
-) -> usize {
+fn put_one(call: u64, position: usize, body: &[u8], page: &mut Page, end: usize) -> usize {
     if call == Call::PMT_START {
         let map = put_map(false, body, page, end);
         return map.end;
@@ -69,7 +57,7 @@ fn put_one(
     turn.end
 }
 
-fn put_map_and_walk(call: u64, body: &[u8], page: &mut [u8; line::PAGE], start: usize) -> usize {
+fn put_map_and_walk(call: u64, body: &[u8], page: &mut Page, start: usize) -> usize {
     let map = put_map(call == Call::PMT, body, page, start);
     if map.goes_on {
         let end = line::put_text(page, map.end, b" ");
@@ -80,13 +68,7 @@ fn put_map_and_walk(call: u64, body: &[u8], page: &mut [u8; line::PAGE], start: 
 
 // The walk of a host: from the position on, each next position handed back, until a refusal. One call more than the body has
 // bytes is enough.
-fn put_walk(
-    call: u64,
-    position: usize,
-    body: &[u8],
-    page: &mut [u8; line::PAGE],
-    start: usize,
-) -> usize {
+fn put_walk(call: u64, position: usize, body: &[u8], page: &mut Page, start: usize) -> usize {
     let mut turn = put_entry(call, position, body, page, start);
     let mut calls = 0;
     while calls < body.len() && turn.goes_on {
@@ -97,13 +79,7 @@ fn put_walk(
     turn.end
 }
 
-fn put_entry(
-    call: u64,
-    position: usize,
-    body: &[u8],
-    page: &mut [u8; line::PAGE],
-    end: usize,
-) -> Turn {
+fn put_entry(call: u64, position: usize, body: &[u8], page: &mut Page, end: usize) -> Turn {
     match call {
         Call::PROGRAM_AT => put_program(false, position, body, page, end),
         Call::PAT => put_program(true, position, body, page, end),
@@ -112,13 +88,7 @@ fn put_entry(
 }
 
 // `is_shown`: only what the Rust crate shows.
-fn put_program(
-    is_shown: bool,
-    position: usize,
-    body: &[u8],
-    page: &mut [u8; line::PAGE],
-    end: usize,
-) -> Turn {
+fn put_program(is_shown: bool, position: usize, body: &[u8], page: &mut Page, end: usize) -> Turn {
     match PatSection::program_at(body, position) {
         ProgramAnswer::Refused(refusal) => ends(line::put_refusal(page, end, refusal)),
         ProgramAnswer::Tail { offset } => put_stop(is_shown, Answer::PAT_TAIL, offset, page, end),
@@ -131,12 +101,7 @@ fn put_program(
     }
 }
 
-fn put_whole_program(
-    program: ProgramDescriptor,
-    next: u64,
-    page: &mut [u8; line::PAGE],
-    end: usize,
-) -> usize {
+fn put_whole_program(program: ProgramDescriptor, next: u64, page: &mut Page, end: usize) -> usize {
     match program {
         ProgramDescriptor::Network { pid } => {
             let start = line::put_text(page, end, b"0 network ");
@@ -152,7 +117,7 @@ fn put_whole_program(
     }
 }
 
-fn put_shown_program(program: ProgramDescriptor, page: &mut [u8; line::PAGE], end: usize) -> usize {
+fn put_shown_program(program: ProgramDescriptor, page: &mut Page, end: usize) -> usize {
     match program {
         ProgramDescriptor::Network { pid } => {
             line::put_numbers(page, end, &[GIVEN, 0, pid as u64])
@@ -164,13 +129,7 @@ fn put_shown_program(program: ProgramDescriptor, page: &mut [u8; line::PAGE], en
     }
 }
 
-fn put_stream(
-    is_shown: bool,
-    position: usize,
-    body: &[u8],
-    page: &mut [u8; line::PAGE],
-    end: usize,
-) -> Turn {
+fn put_stream(is_shown: bool, position: usize, body: &[u8], page: &mut Page, end: usize) -> Turn {
     match PmtSection::stream_at(body, position) {
         StreamAnswer::Refused(refusal) => ends(line::put_refusal(page, end, refusal)),
         StreamAnswer::Under5 { offset } => {
@@ -197,13 +156,7 @@ fn put_stream(
 }
 
 // Why no entry fits, and the offset of what is left.
-fn put_stop(
-    is_shown: bool,
-    answer: u8,
-    offset: usize,
-    page: &mut [u8; line::PAGE],
-    end: usize,
-) -> Turn {
+fn put_stop(is_shown: bool, answer: u8, offset: usize, page: &mut Page, end: usize) -> Turn {
     let numbers = [answer as u64, offset as u64];
     if is_shown {
         return ends(line::put_numbers(page, end, &numbers[..1]));
@@ -212,7 +165,7 @@ fn put_stop(
 }
 
 // The PMT's start; the walk of its streams goes on where it says.
-fn put_map(is_shown: bool, body: &[u8], page: &mut [u8; line::PAGE], end: usize) -> Turn {
+fn put_map(is_shown: bool, body: &[u8], page: &mut Page, end: usize) -> Turn {
     match PmtSection::start(body) {
         PmtAnswer::TooShort { needed, actual } => ends(line::put_numbers(
             page,
@@ -223,12 +176,7 @@ fn put_map(is_shown: bool, body: &[u8], page: &mut [u8; line::PAGE], end: usize)
     }
 }
 
-fn put_whole_map(
-    is_shown: bool,
-    map: PmtSection,
-    page: &mut [u8; line::PAGE],
-    end: usize,
-) -> usize {
+fn put_whole_map(is_shown: bool, map: PmtSection, page: &mut Page, end: usize) -> usize {
     let pid = map.pcr_pid as u64;
     let length = map.descriptors.len as u64;
     let streams = map.streams as u64;

@@ -1,7 +1,8 @@
 // The forms of lines: text with places for numbers and names. They are written to standard output as they are made.
 ghost use Rattle.std.specs.Prelude.{◌+◌, ◌≤◌, ◌<◌, length};
 
-use libc::STDOUT_FILENO;
+use std::io;
+use std::io::{Print, Stdout};
 use text::{front, put_decimal, put_decimal_left, put_hexadecimal, put_repeated, put_text};
 
 // In the form of a line a run of these stands for a number: decimal, at the right or the left of the run's width, or
@@ -20,36 +21,36 @@ const ROW: usize = 16;
 // Room for most forms; what is longer is written in parts.
 const ROOM: usize = 256;
 
-// Writes a form with the numbers in their places, and answers how many writes failed: 0 or 1.
-pub fn put(form: &[u8], numbers: &[u64]) -> u64 {
-    put_named(form, numbers, b"")
+// Writes a form with the numbers in their places.
+pub fn put(out: Stdout, form: &[u8], numbers: &[u64]) -> io::Result<()> {
+    put_named(out, form, numbers, b"")
 }
 
 // The same, with names.
-pub fn put_named(form: &[u8], numbers: &[u64], names: &[u8]) -> u64 {
+pub fn put_named(out: Stdout, form: &[u8], numbers: &[u64], names: &[u8]) -> io::Result<()> {
     let mut room = [0u8; ROOM];
     let page: &mut [u8] = &mut room;
-    let end = fill(page, 0, form, numbers, names);
-    write(page, end)
+    let end = fill(out, page, 0, form, numbers, names);
+    out.write_all(front(page, end))
 }
 
 // Writes bytes in lines of sixteen, each line with the place of its first.
-pub fn put_bytes(bytes: &[u8]) {
+pub fn put_bytes(out: Stdout, bytes: &[u8]) -> io::Result<()> {
     let mut room = [0u8; ROOM];
     let page: &mut [u8] = &mut room;
-    let end = fill_bytes(page, bytes);
-    write(page, end);
-}
-
-fn write(page: &[u8], end: usize) -> u64 {
-    if io::write_all(STDOUT_FILENO, front(page, end)) {
-        return 0;
-    }
-    1
+    let end = fill_bytes(out, page, bytes);
+    out.write_all(front(page, end))
 }
 
 // Each `fill..` adds text to the page behind the bytes that it has, and answers how many it has then.
-fn fill(page: &mut [u8], before: usize, form: &[u8], numbers: &[u64], names: &[u8]) -> usize {
+fn fill(
+    out: Stdout,
+    page: &mut [u8],
+    before: usize,
+    form: &[u8],
+    numbers: &[u64],
+    names: &[u8],
+) -> usize {
     let mut end = before;
     let mut i = 0;
     let mut used = 0;
@@ -57,10 +58,10 @@ fn fill(page: &mut [u8], before: usize, form: &[u8], numbers: &[u64], names: &[u
         let mark = form[i];
         let width = run_at(form, i);
         if is_place(mark) {
-            end = fill_place(page, end, mark, width, number_at(numbers, used), names);
+            end = fill_place(out, page, end, mark, width, number_at(numbers, used), names);
             used += 1;
         } else {
-            end = put_repeated(page, end, mark, width);
+            end = put_repeated(out, page, end, mark, width);
         }
         i += width;
     }
@@ -96,12 +97,20 @@ fn number_at(numbers: &[u64], at: usize) -> u64 {
     0
 }
 
-fn fill_place(page: &mut [u8], end: usize, mark: u8, width: usize, n: u64, names: &[u8]) -> usize {
+fn fill_place(
+    out: Stdout,
+    page: &mut [u8],
+    end: usize,
+    mark: u8,
+    width: usize,
+    n: u64,
+    names: &[u8],
+) -> usize {
     match mark {
-        RIGHT => put_decimal(page, end, n, width),
-        LEFT => put_decimal_left(page, end, n, width),
-        HEXADECIMAL => put_hexadecimal(page, end, n, width),
-        _ => put_text(page, end, line_at(names, n)),
+        RIGHT => put_decimal(out, page, end, n, width),
+        LEFT => put_decimal_left(out, page, end, n, width),
+        HEXADECIMAL => put_hexadecimal(out, page, end, n, width),
+        _ => put_text(out, page, end, line_at(names, n)),
     }
 }
 
@@ -123,37 +132,37 @@ pub fn line_at(lines: &[u8], line: u64) -> &[u8] {
     &lines[from..to]
 }
 
-fn fill_bytes(page: &mut [u8], bytes: &[u8]) -> usize {
+fn fill_bytes(out: Stdout, page: &mut [u8], bytes: &[u8]) -> usize {
     let mut end = 0;
     let mut i = 0;
     while i < bytes.len() {
-        end = fill_byte_at(page, end, i, bytes[i]);
+        end = fill_byte_at(out, page, end, i, bytes[i]);
         i += 1;
     }
-    put_text(page, end, b"\n")
+    put_text(out, page, end, b"\n")
 }
 
-fn fill_byte_at(page: &mut [u8], end: usize, at: usize, byte: u8) -> usize {
-    let start = fill_row_start(page, end, at);
-    let blank = put_text(page, start, b" ");
-    put_hexadecimal(page, blank, byte as u64, 2)
+fn fill_byte_at(out: Stdout, page: &mut [u8], end: usize, at: usize, byte: u8) -> usize {
+    let start = fill_row_start(out, page, end, at);
+    let blank = put_text(out, page, start, b" ");
+    put_hexadecimal(out, page, blank, byte as u64, 2)
 }
 
 // Before the first byte of a line.
-fn fill_row_start(page: &mut [u8], end: usize, at: usize) -> usize {
+fn fill_row_start(out: Stdout, page: &mut [u8], end: usize, at: usize) -> usize {
     if at % ROW != 0 {
         return end;
     }
-    let start = fill_line_end(page, end, at);
-    let word = put_text(page, start, b"  bytes   ");
-    let place = put_decimal(page, word, at as u64, 5);
-    put_text(page, place, b" ")
+    let start = fill_line_end(out, page, end, at);
+    let word = put_text(out, page, start, b"  bytes   ");
+    let place = put_decimal(out, page, word, at as u64, 5);
+    put_text(out, page, place, b" ")
 }
 
 // The end of the line before that place, if there is one.
-fn fill_line_end(page: &mut [u8], end: usize, at: usize) -> usize {
+fn fill_line_end(out: Stdout, page: &mut [u8], end: usize, at: usize) -> usize {
     if at == 0 {
         return end;
     }
-    put_text(page, end, b"\n")
+    put_text(out, page, end, b"\n")
 }

@@ -10,15 +10,20 @@ mod totals;
 mod usage;
 mod words;
 
-ghost use Rattle.std.specs.Prelude.{◌≡◌, ◌+◌, ◌≤◌, length};
+ghost use Rattle.std.specs.Prelude.{◌≡◌, ◌+◌, ◌≤◌, length, IfOk};
 ghost use Rattle.sections.specs.Within.{Within};
 
 use answers::Answer;
 use input::{Found, Kind};
-use libc::{STDERR_FILENO, STDIN_FILENO};
 use packet::{HeaderAnswer, Packet};
 use reader::{Form, Reader, Step};
-use words::{Fault, FormLine, Words};
+use std::alloc::Global;
+use std::env::Env;
+use std::fs::{File, Files};
+use std::io;
+use std::io::{ErrorKind, Read, Stderr, Stdin, Stdout};
+use totals::Totals;
+use words::{Fault, FormLine, WORD, Words};
 
 // The bytes of the stream that are held at once.
 const ROOM: usize = 65536;
@@ -32,82 +37,95 @@ struct Run {
     end: usize,
     skipped: u64,
     is_over: bool,
-    is_failed: bool,
+    read: io::Result<()>,
 }
 
+// Where the program reads and writes when no file is named, and what tells of its errors.
 #[derive(Clone, Copy)]
-struct Got {
-    count: usize,
-    is_failed: bool,
+struct Streams {
+    input: Stdin,
+    out: Stdout,
+    err: Stderr,
+    alloc: Global,
 }
 
-fn main() {
-    let words = words::asked();
+fn main(rt: HostRuntime) {
+    let words = words::asked(&rt);
     let fault = words.fault;
+    let streams = Streams {
+        input: rt.stdin(),
+        out: rt.stdout(),
+        err: rt.stderr(),
+        alloc: rt.alloc(),
+    };
     match fault {
-        Fault::NONE => read(words),
-        Fault::HELP => usage::help(),
-        _ => usage::complain(words.at, fault),
+        Fault::NONE => read(&rt, streams, words),
+        Fault::HELP => usage::help(streams.out),
+        _ => usage::complain(&rt, streams.err, words.at, fault),
     }
 }
 
-fn read(words: Words) {
-    let mut room = io::buffer();
-    let length = os::arg(words.file, &mut room);
-    read_file(words, &room[..length]);
+fn read(rt: &(impl Env + Files), streams: Streams, words: Words) {
+    let mut room = [0u8; WORD];
+    let length = words::word_at(rt, words.file, &mut room);
+    read_file(rt, streams, words, &room[..length]);
 }
 
-fn read_file(words: Words, path: &[u8]) {
+fn read_file(files: &impl Files, streams: Streams, words: Words, path: &[u8]) {
     if words.file == 0 || words::line_of(path, b"-\n") == 0 {
-        work(STDIN_FILENO, words, b"standard input");
+        let mut input = streams.input;
+        work(&mut input, streams, words, b"standard input");
         return;
     }
-    let fd = os::open_read(path);
-    if fd < 0 {
-        fail(path);
-        return;
+    match open(files, path) {
+        Ok(mut file) => work(&mut file, streams, words, path),
+        Err(error) => fail(streams, path, error),
     }
-    work(fd, words, path);
-    libc::close(fd);
 }
 
-// Says on standard error what errno says of it.
-fn fail(what: &[u8]) {
-    io::write_all(STDERR_FILENO, b"sections: ");
-    os::fail(what);
+// The library opens no file whose name is not UTF-8.
+fn open<R: Files>(files: &R, path: &[u8]) -> io::Result<R::File> {
+    match str::from_utf8(path) {
+        Ok(path) => File::open(files, path),
+        Err(_) => Err(io::Error::new(ErrorKind::InvalidFilename, "The name is not UTF-8")),
+    }
 }
 
-fn work(fd: i32, words: Words, name: &[u8]) {
-    if !is_readable(fd) {
-        fail(name);
+fn work(input: &mut impl Read, streams: Streams, words: Words, name: &[u8]) {
+    if let Err(error) = is_readable(input) {
+        fail(streams, name, error);
         return;
     }
     let mut room = [0u8; ROOM];
     let mut buffer = [0u8; Reader::BUFFER_SIZE];
-    let mut sums = [0u64; totals::COUNT];
-    let run = work_all(fd, words, &mut room, &mut buffer, &mut sums);
-    finish(run, words.pid, name, &mut sums);
+    let mut sums = totals::none();
+    let run = work_all(input, streams.out, words, &mut room, &mut buffer, &mut sums);
+    finish(run, streams, words.pid, name, &mut sums);
 }
 
 // A read of no bytes finds a directory, before anything is printed.
-fn is_readable(fd: i32) -> bool {
+fn is_readable(input: &mut impl Read) -> io::Result<()> {
     let mut room = [0u8; 1];
-    libc::read(fd, &mut room[0..0]) >= 0
+    input.read(&mut room[0..0])?;
+    Ok(())
 }
 
 // A proved loop has to end, and nothing says that the input does. So it counts its turns down, from a number that no run uses up.
-fn work_all(fd: i32, words: Words, room: &mut [u8], buffer: &mut [u8], sums: &mut [u64]) -> Run
+fn work_all(
+    input: &mut impl Read,
+    out: Stdout,
+    words: Words,
+    room: &mut [u8],
+    buffer: &mut [u8],
+    sums: &mut Totals,
+) -> Run
     ensures { result.from ≤ result.end }
 {
-    totals::add(
-        sums,
-        totals::NOT_WRITTEN,
-        lines::put_heading(words.pid, words.form),
-    );
+    totals::tell(sums, lines::put_heading(out, words.pid, words.form));
     let mut run = begun(words.form);
     let mut turns = u64::MAX;
     while turns > 0 && !run.is_over {
-        run = work_next(run, words, fd, room, buffer, sums);
+        run = work_next(run, words, input, out, room, buffer, sums);
         turns -= 1;
     }
     run
@@ -123,7 +141,7 @@ fn begun(form: u64) -> Run
         end: 0,
         skipped: 0,
         is_over: false,
-        is_failed: false,
+        read: Ok(()),
     }
 }
 
@@ -138,10 +156,11 @@ fn form_of(line: u64) -> Form {
 fn work_next(
     run: Run,
     words: Words,
-    fd: i32,
+    input: &mut impl Read,
+    out: Stdout,
     room: &mut [u8],
     buffer: &mut [u8],
-    sums: &mut [u64],
+    sums: &mut Totals,
 ) -> Run
     requires { Within run room.old }
     ensures { Within result room.new }
@@ -152,10 +171,10 @@ fn work_next(
     let kind = next.kind;
     match kind {
         Kind::More => {
-            return work_more(run, fd, room, sums);
+            return work_more(run, input, room, sums);
         }
         _ => {
-            return work_bytes(run, to, kind, words, &room[from..to], buffer, sums);
+            return work_bytes(run, to, kind, words, out, &room[from..to], buffer, sums);
         }
     }
 }
@@ -175,21 +194,22 @@ fn work_bytes(
     to: usize,
     kind: Kind,
     words: Words,
+    out: Stdout,
     bytes: &[u8],
     buffer: &mut [u8],
-    sums: &mut [u64],
+    sums: &mut Totals,
 ) -> Run
     ensures { (result.from ≡ to) × (result.end ≡ run.end) }
 {
     match kind {
         Kind::Packet => {
-            tell_skipped(run.skipped, sums);
-            let after = work_packet(run.reader, words, bytes, buffer, sums);
+            tell_skipped(out, run.skipped, sums);
+            let after = work_packet(run.reader, words, out, bytes, buffer, sums);
             totals::add(sums, totals::PACKETS, 1);
             return run.behind(to, after);
         }
         Kind::Damaged => {
-            refuse(Answer::NO_SYNC_BYTE, words.all, sums);
+            refuse(out, Answer::NO_SYNC_BYTE, words.all, sums);
             totals::add(sums, totals::PACKETS, 1);
             return run.at(to, 0);
         }
@@ -210,7 +230,7 @@ impl Run {
             end: self.end,
             skipped: 0,
             is_over: false,
-            is_failed: false,
+            read: Ok(()),
         }
     }
 
@@ -223,13 +243,13 @@ impl Run {
     }
 
     // The bytes that are not worked yet now stand at the room's start, and end there.
-    fn with_bytes(mut self, end: usize, got: Got) -> Run
+    fn with_bytes(mut self, end: usize, is_over: bool, read: io::Result<()>) -> Run
         ensures { (result.from ≡ 0) × (result.end ≡ end) }
     {
         self.from = 0;
         self.end = end;
-        self.is_over = got.count == 0;
-        self.is_failed = got.is_failed;
+        self.is_over = is_over;
+        self.read = read;
         self
     }
 
@@ -241,12 +261,12 @@ impl Run {
     }
 }
 
-fn tell_skipped(skipped: u64, sums: &mut [u64]) {
+fn tell_skipped(out: Stdout, skipped: u64, sums: &mut Totals) {
     if skipped == 0 {
         return;
     }
-    let failed = lines::put_skipped(totals::of(sums, totals::PACKETS), skipped);
-    totals::add(sums, totals::NOT_WRITTEN, failed);
+    let written = lines::put_skipped(out, totals::of(sums, totals::PACKETS), skipped);
+    totals::tell(sums, written);
     totals::add(sums, totals::SKIPPED, skipped);
 }
 
@@ -254,15 +274,16 @@ fn tell_skipped(skipped: u64, sums: &mut [u64]) {
 fn work_packet(
     reader: Reader,
     words: Words,
+    out: Stdout,
     packet: &[u8],
     buffer: &mut [u8],
-    sums: &mut [u64],
+    sums: &mut Totals,
 ) -> Reader {
     if pid_of(packet) != words.pid {
         return reader;
     }
     totals::add(sums, totals::OF_PID, 1);
-    both_steps(reader, words, packet, buffer, sums)
+    both_steps(reader, words, out, packet, buffer, sums)
 }
 
 // The PID of a packet; a number that is none where it is refused.
@@ -276,19 +297,20 @@ fn pid_of(packet: &[u8]) -> u16 {
 fn both_steps(
     reader: Reader,
     words: Words,
+    out: Stdout,
     packet: &[u8],
     buffer: &mut [u8],
-    sums: &mut [u64],
+    sums: &mut Totals,
 ) -> Reader {
     let tail = reader.tail(packet, buffer);
-    tell(tail, words, packet, buffer, sums);
+    tell(tail, words, out, packet, buffer, sums);
     let between = tail.reader;
     let head = between.head(packet, buffer);
     let after = head.reader;
     if both_refuse(head.answer) {
         return after;
     }
-    tell(head, words, packet, buffer, sums);
+    tell(head, words, out, packet, buffer, sums);
     after
 }
 
@@ -304,65 +326,65 @@ fn both_refuse(answer: u8) -> bool {
     answer <= Answer::POINTER_BEYOND_REST
 }
 
-fn tell<'a>(step: Step, words: Words, packet: &'a [u8], buffer: &'a [u8], sums: &mut [u64]) {
+fn tell<'a>(
+    step: Step,
+    words: Words,
+    out: Stdout,
+    packet: &'a [u8],
+    buffer: &'a [u8],
+    sums: &mut Totals,
+) {
     if step.answer == Answer::DELIVERED {
         let section = reader::section(packet, buffer, step.answer, step.place);
-        deliver(section, words, sums);
+        deliver(out, section, words, sums);
         return;
     }
     if Answer::PACKET_SIZE <= step.answer {
-        refuse(step.answer, words.all, sums);
+        refuse(out, step.answer, words.all, sums);
     }
 }
 
-fn deliver(section: &[u8], words: Words, sums: &mut [u64]) {
-    let failed = lines::put_section(totals::of(sums, totals::PACKETS), words.form, section);
+fn deliver(out: Stdout, section: &[u8], words: Words, sums: &mut Totals) {
+    let written = lines::put_section(out, totals::of(sums, totals::PACKETS), words.form, section);
     if words.hex {
-        line_forms::put_bytes(section);
+        let _ = line_forms::put_bytes(out, section);
     }
-    totals::add(sums, totals::NOT_WRITTEN, failed);
+    totals::tell(sums, written);
     totals::add(sums, Answer::DELIVERED as usize, 1);
 }
 
-fn refuse(answer: u8, is_told: bool, sums: &mut [u64]) {
+fn refuse(out: Stdout, answer: u8, is_told: bool, sums: &mut Totals) {
     totals::add(sums, answer as usize, 1);
     totals::add(sums, totals::REFUSED, 1);
     if is_told {
-        let failed = lines::put_refused(totals::of(sums, totals::PACKETS), answer);
-        totals::add(sums, totals::NOT_WRITTEN, failed);
+        let written = lines::put_refused(out, totals::of(sums, totals::PACKETS), answer);
+        totals::tell(sums, written);
     }
 }
 
 // Reads more, unless what was told could not be written.
-fn work_more(run: Run, fd: i32, room: &mut [u8], sums: &[u64]) -> Run
+fn work_more(run: Run, input: &mut impl Read, room: &mut [u8], sums: &Totals) -> Run
     requires { Within run room.old }
     ensures { Within result room.new }
 {
-    if totals::of(sums, totals::NOT_WRITTEN) != 0 {
+    if sums.written.is_err() {
         return run.over();
     }
     let left = run.end - run.from;
-    let got = read_more(fd, room, run.from, left);
-    run.with_bytes(left + got.count, got)
+    match read_more(input, room, run.from, left) {
+        Ok(count) => run.with_bytes(left + count, count == 0, Ok(())),
+        Err(error) => run.with_bytes(left, true, Err(error)),
+    }
 }
 
 // Moves so many bytes to the room's start, and reads more behind them.
-fn read_more(fd: i32, room: &mut [u8], from: usize, left: usize) -> Got
+fn read_more(input: &mut impl Read, room: &mut [u8], from: usize, left: usize) -> io::Result<usize>
     requires { from + left ≤ length room.old }
-    ensures { left + result.count ≤ length room.new }
+    ensures room { length room.new ≡ length room.old }
+    ensures count { IfOk result (λ count. left + count ≤ length room.new) }
 {
     move_down(room, from, left);
-    read_some(fd, &mut room[left..])
-}
-
-fn read_some(fd: i32, rest: &mut [u8]) -> Got
-    ensures { result.count ≤ length rest.new }
-{
-    let got = libc::read(fd, rest);
-    Got {
-        count: io::count(got, rest),
-        is_failed: got < 0,
-    }
+    input.read(&mut room[left..])
 }
 
 // Moves so many bytes to the room's start.
@@ -377,27 +399,33 @@ fn move_down(room: &mut [u8], from: usize, count: usize)
 }
 
 // The input is over, or could not be read on: writes the totals, and says on standard error what was wrong.
-fn finish(run: Run, pid: u16, name: &[u8], sums: &mut [u64])
+fn finish(run: Run, streams: Streams, pid: u16, name: &[u8], sums: &mut Totals)
     requires { run.from ≤ run.end }
 {
-    if totals::of(sums, totals::NOT_WRITTEN) != 0 {
-        fail(b"standard output");
+    let out = streams.out;
+    if let Err(error) = sums.written {
+        fail(streams, b"standard output", error);
         return;
     }
-    if run.is_failed {
-        fail(name);
+    if let Err(error) = run.read {
+        fail(streams, name, error);
     }
-    add_rest(run, sums);
-    if totals::put_all(pid, sums) != 0 {
-        fail(b"standard output");
+    add_rest(run, out, sums);
+    if let Err(error) = totals::put_all(out, pid, sums) {
+        fail(streams, b"standard output", error);
     }
     if totals::of(sums, totals::PACKETS) == 0 {
-        usage::say(name, b": no packet found\n");
+        usage::say(streams.err, name, b": no packet found\n");
     }
 }
 
+// Says on standard error what the system says of it.
+fn fail(streams: Streams, what: &[u8], error: io::Error) {
+    usage::fail(streams.err, streams.alloc, what, error);
+}
+
 // Counts the bytes of which no packet or no section came.
-fn add_rest(run: Run, sums: &mut [u64])
+fn add_rest(run: Run, out: Stdout, sums: &mut Totals)
     requires { run.from ≤ run.end }
 {
     totals::add(sums, totals::KEPT, kept(run.reader));
@@ -406,7 +434,7 @@ fn add_rest(run: Run, sums: &mut [u64])
         totals::add(sums, totals::REST, rest);
         return;
     }
-    tell_skipped(totals::sum(run.skipped, rest), sums);
+    tell_skipped(out, totals::sum(run.skipped, rest), sums);
 }
 
 // The bytes that wait for the rest of a section.

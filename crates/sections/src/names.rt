@@ -1,10 +1,13 @@
 // What numbers mean, in words. Each call writes a form in which the name has a place.
 use crate::line_forms::put_named;
 use answers::Answer;
+use std::io;
+use std::io::Stdout;
 
 // With the name of a table of ISO/IEC 13818-1, - for any other, and of the time when it holds.
-pub fn put_with_table(form: &[u8], numbers: &[u64]) -> u64 {
+pub fn put_with_table(out: Stdout, form: &[u8], numbers: &[u64]) -> io::Result<()> {
     put_named(
+        out,
         form,
         numbers,
         b"PAT \n\
@@ -22,8 +25,9 @@ pub fn table_line(table_id: u8) -> u64 {
 }
 
 // With the meaning of an answer, a line for each number, and one for what is none.
-pub fn put_with_meaning(form: &[u8], numbers: &[u64]) -> u64 {
+pub fn put_with_meaning(out: Stdout, form: &[u8], numbers: &[u64]) -> io::Result<()> {
     put_named(
+        out,
         form,
         numbers,
         b"nothing for this step\n\
@@ -68,8 +72,9 @@ pub fn meaning_line(answer: u8) -> u64 {
 }
 
 // With a stream type's name in short, after table 2-34 of Rec. ITU-T H.222.0 (06/2021) | ISO/IEC 13818-1; at most 23 letters.
-pub fn put_with_stream_type(form: &[u8], numbers: &[u64]) -> u64 {
+pub fn put_with_stream_type(out: Stdout, form: &[u8], numbers: &[u64]) -> io::Result<()> {
     put_named(
+        out,
         form,
         numbers,
         b"reserved\n\

@@ -2,6 +2,8 @@
 use crate::line_forms::put;
 use crate::names::{meaning_line, put_with_meaning};
 use answers::Answer;
+use std::io;
+use std::io::Stdout;
 
 pub const REFUSED: usize = 256;
 
@@ -15,20 +17,39 @@ pub const REST: usize = 260;
 
 pub const KEPT: usize = 261;
 
-pub const NOT_WRITTEN: usize = 262;
+const COUNT: usize = 262;
 
-pub const COUNT: usize = 263;
+// The totals, and how what was told so far was written: an output that fails goes on failing.
+#[derive(Drop)]
+pub struct Totals {
+    pub sums: [u64; COUNT],
+    pub written: io::Result<()>,
+}
 
-pub fn of(sums: &[u64], at: usize) -> u64 {
-    if at < sums.len() {
-        return sums[at];
+pub fn none() -> Totals {
+    Totals {
+        sums: [0u64; COUNT],
+        written: Ok(()),
+    }
+}
+
+pub fn of(totals: &Totals, at: usize) -> u64 {
+    if at < COUNT {
+        return totals.sums[at];
     }
     0
 }
 
-pub fn add(sums: &mut [u64], at: usize, n: u64) {
-    if at < sums.len() {
-        sums[at] = sum(sums[at], n);
+pub fn add(totals: &mut Totals, at: usize, n: u64) {
+    if at < COUNT {
+        totals.sums[at] = sum(totals.sums[at], n);
+    }
+}
+
+// What was told was written, or failed to be.
+pub fn tell(totals: &mut Totals, written: io::Result<()>) {
+    if written.is_err() {
+        totals.written = written;
     }
 }
 
@@ -37,17 +58,18 @@ pub fn sum(a: u64, b: u64) -> u64 {
     if a <= u64::MAX - b { a + b } else { u64::MAX }
 }
 
-// Answers how many writes failed, 0 or 1.
-pub fn put_all(pid: u16, sums: &[u64]) -> u64 {
+// Answers how the first lines were written.
+pub fn put_all(out: Stdout, pid: u16, totals: &Totals) -> io::Result<()> {
     let numbers = [
-        of(sums, PACKETS),
-        of(sums, OF_PID),
+        of(totals, PACKETS),
+        of(totals, OF_PID),
         pid as u64,
         pid as u64,
-        of(sums, Answer::DELIVERED as usize),
-        of(sums, REFUSED),
+        of(totals, Answer::DELIVERED as usize),
+        of(totals, REFUSED),
     ];
-    let failed = put(
+    let written = put(
+        out,
         b"\n\
           total   ##########  packets\n\
           total   ##########  packets of PID # (0x$$$$)\n\
@@ -55,44 +77,47 @@ pub fn put_all(pid: u16, sums: &[u64]) -> u64 {
           total   ##########  refused\n",
         &numbers,
     );
-    put_refused(sums);
+    put_refused(out, totals);
     // What is there only in a stream that is damaged or cut.
     put_some(
+        out,
         b"total   ##########  bytes skipped that are no packet\n",
-        sums,
+        totals,
         SKIPPED,
     );
     put_some(
+        out,
         b"total   ##########  bytes at the end that make no packet\n",
-        sums,
+        totals,
         REST,
     );
     put_some(
+        out,
         b"total   ##########  bytes kept of a section that did not end\n",
-        sums,
+        totals,
         KEPT,
     );
-    failed
+    written
 }
 
-fn put_some(form: &[u8], sums: &[u64], at: usize) {
-    let total = of(sums, at);
+fn put_some(out: Stdout, form: &[u8], totals: &Totals, at: usize) {
+    let total = of(totals, at);
     if total != 0 {
-        put(form, &[total]);
+        let _ = put(out, form, &[total]);
     }
 }
 
-fn put_refused(sums: &[u64]) {
+fn put_refused(out: Stdout, totals: &Totals) {
     let mut answer = Answer::PACKET_SIZE as usize;
     while answer < REFUSED {
-        put_refused_by(answer as u8, of(sums, answer));
+        put_refused_by(out, answer as u8, of(totals, answer));
         answer += 1;
     }
 }
 
-fn put_refused_by(answer: u8, total: u64) {
+fn put_refused_by(out: Stdout, answer: u8, total: u64) {
     if total != 0 {
         let numbers = [total, answer as u64, meaning_line(answer)];
-        put_with_meaning(b"total   ##########  refused, #: @\n", &numbers);
+        let _ = put_with_meaning(out, b"total   ##########  refused, #: @\n", &numbers);
     }
 }

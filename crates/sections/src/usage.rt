@@ -1,18 +1,39 @@
-// How the program is asked, and what it says where it is asked wrongly.
+// How the program is asked, and what it says on standard error. What cannot be said there is not said.
 use crate::line_forms::line_at;
-use libc::{STDERR_FILENO, STDOUT_FILENO};
+use crate::words::{WORD, word_at};
+use std::alloc::Global;
+use std::env::Env;
+use std::io;
+use std::io::{Print, Stderr, Stdout};
 
-// On standard error.
-pub fn say(what: &[u8], why: &[u8]) {
-    io::write_all(STDERR_FILENO, b"sections: ");
-    io::write_all(STDERR_FILENO, what);
-    io::write_all(STDERR_FILENO, why);
+pub fn say(err: Stderr, what: &[u8], why: &[u8]) {
+    let _ = err.write_all(b"sections: ");
+    let _ = err.write_all(what);
+    let _ = err.write_all(why);
+}
+
+// What the system says of it.
+pub fn fail(err: Stderr, alloc: Global, what: &[u8], error: io::Error) {
+    say(err, what, b": ");
+    let _ = match format!(in alloc; "{error}") {
+        Ok(text) => err.write_all(without_number(text.as_str()).as_bytes()),
+        Err(_) => err.write_all(b"out of memory"),
+    };
+    let _ = err.write_all(b"\n");
+}
+
+// An error is printed with its number behind it.
+fn without_number(text: &str) -> &str {
+    match text.split_once(" (os error ") {
+        Some((meaning, _)) => meaning,
+        None => text,
+    }
 }
 
 // What is wrong with the word there; one that is too long has no bytes here.
-pub fn complain(at: usize, fault: u8) {
-    let mut room = io::buffer();
-    let length = os::arg(at, &mut room);
+pub fn complain(env: &impl Env, err: Stderr, at: usize, fault: u8) {
+    let mut room = [0u8; WORD];
+    let length = word_at(env, at, &mut room);
     // A line for each fault, by its number.
     let faults = b"\n\
           \n\
@@ -21,16 +42,14 @@ pub fn complain(at: usize, fault: u8) {
           takes compact, full or once\n\
           : a second file; one is read\n\
           a word is longer than 4096 bytes\n";
-    say(&room[..length], line_at(faults, fault as u64));
-    io::write_all(
-        STDERR_FILENO,
+    say(err, &room[..length], line_at(faults, fault as u64));
+    let _ = err.write_all(
         b"\nusage: sections [--pid N] [--form compact|full|once] [--all] [--hex] [FILE|-]\n",
     );
 }
 
-pub fn help() {
-    io::write_all(
-        STDOUT_FILENO,
+pub fn help(out: Stdout) {
+    let _ = out.write_all(
         b"sections [--pid N] [--form compact|full|once] [--all] [--hex] [FILE|-]\n\
           \n\
           Prints the sections that a reader of one PID delivers, as they come, from a\n\

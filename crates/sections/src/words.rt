@@ -1,5 +1,11 @@
 // The words that the program is started with.
+ghost use Rattle.std.specs.Prelude.{◌≤◌, length};
+
 use packet::Pid;
+use std::env::{Env, FillError};
+
+// The bytes of the longest word.
+pub const WORD: usize = 4096;
 
 // What is wrong with the words, by its number.
 #[derive(Drop)]
@@ -48,8 +54,7 @@ pub struct Words {
 }
 
 // Until a word is wrong.
-pub fn asked() -> Words {
-    let count = os::arg_count();
+pub fn asked(env: &impl Env) -> Words {
     let mut words = Words {
         pid: Pid::PAT,
         form: FormLine::FULL,
@@ -61,24 +66,43 @@ pub fn asked() -> Words {
         goes_on: true,
     };
     let mut at = 1;
-    while at < count && words.goes_on {
-        words = words.with_next(at);
+    while at < usize::MAX && words.goes_on {
+        words = words.with_next(env, at);
         at += 1;
     }
     words
 }
 
+// Puts the word with that number into the room, and answers how many bytes it has; 0 of one that is too long or not there.
+pub fn word_at(env: &impl Env, at: usize, room: &mut [u8]) -> usize
+    ensures { result ≤ length room.new }
+{
+    match env.arg(at, room) {
+        Ok(length) => length,
+        Err(_) => 0,
+    }
+}
+
 impl Words {
+    fn with_next(mut self, env: &impl Env, at: usize) -> Words {
+        let mut room = [0u8; WORD];
+        match env.arg(at, &mut room) {
+            Ok(length) => self.with_argument(at, &room[..length], true),
+            Err(FillError::TooLong) => self.with_argument(at, &room[..0], false),
+            Err(FillError::NotPresent) => {
+                self.goes_on = false;
+                self
+            }
+        }
+    }
+
     // A value that is too long has no bytes here.
-    fn with_next(self, at: usize) -> Words {
-        let mut room = io::buffer();
-        let length = os::arg(at, &mut room);
-        let is_whole = os::errno() == 0;
+    fn with_argument(self, at: usize, word: &[u8], is_whole: bool) -> Words {
         let fault = self.fault;
         match fault {
-            Fault::NO_PID => self.with_pid(&room[..length]),
-            Fault::NO_FORM => self.with_form(&room[..length]),
-            _ => self.with_word(at, &room[..length], is_whole),
+            Fault::NO_PID => self.with_pid(word),
+            Fault::NO_FORM => self.with_form(word),
+            _ => self.with_word(at, word, is_whole),
         }
     }
 
