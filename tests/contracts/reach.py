@@ -53,8 +53,8 @@ class Function(Item):
 
     def __init__(self, *arguments):
         super().__init__(*arguments)
-        self.is_public = bool(re.match(r'\s*pub (extern "C" )?fn ', self.lines[0]))
-        self.is_constant = bool(re.match(r"\s*(pub )?const ", self.lines[0]))
+        self.is_public = bool(re.match(r'\s*pub (const |unsafe |extern "C" )*fn ', self.lines[0]))
+        self.is_constant = bool(re.match(r"\s*(pub )?const (?!fn )", self.lines[0]))
         self.parameters, self.result, self.head = [], "", ""
         if self.is_constant:
             self.body = self.text.partition(" = ")[2]
@@ -66,12 +66,12 @@ class Function(Item):
             while self.text[body] != "{":
                 body = re.compile(r"\s*").match(self.text, closing(self.text, self.text.index("{", body)) + 1).end()
             self.head, self.body = self.text[contract:body], self.text[body:]
-            self.result = re.sub(r"^\s*->\s*", "", self.text[ends + 1:contract]).strip()
+            self.result = re.sub(r"^\s*->\s*|\bwhere\b.*", "", self.text[ends + 1:contract], flags=re.S).strip()
             left = self.text[begins + 1:ends]
             while left.strip():
                 parameter, _ = outside(left, ",")
                 name, _, kind = parameter.partition(":")
-                self.parameters.append((name.strip(), kind.strip() or self.owner))
+                self.parameters.append((re.sub(r"^\s*mut\s", "", name).strip(), kind.strip() or self.owner))
                 left = left[len(parameter) + 1:]
 
     def types(self, crate, upto):
@@ -129,6 +129,21 @@ class Function(Item):
                 yield crate.function(self, owner + "::", call.group(1))
 
 
+def used(tree):
+    """The names that a `use` of code brings in, each with the path that it names."""
+    tree = tree.strip()
+    if tree.endswith("}"):
+        path, _, group = tree[:-1].partition("{")
+        while group.strip():
+            one, _ = outside(group, ",")
+            for whole, name in used(path + one.strip()) if one.strip() else ():
+                yield whole, name
+            group = group[len(one) + 1:]
+    else:
+        whole, _, name = re.sub(r"::self$", "", re.sub(r"\s+", " ", tree)).partition(" as ")
+        yield whole, name or whole.rpartition("::")[2]
+
+
 class Source:
     """A source file: its functions and constants, what it imports, and the fields of its structs."""
 
@@ -136,19 +151,20 @@ class Source:
         self.path = path
         lines = path.read_text().splitlines()
         text = self.plain("\n".join(lines))
-        self.imported = {match.group(2) for match in re.finditer(r"^\s*(?:pub )?use ([\w:]+)::(\w+);", text, re.M) if not match.group(1).startswith("crate")}
+        uses = [use for tree in re.findall(r"^\s*(?:pub )?use ([^;]+);", text, re.M) for use in used(tree)]
+        self.imported = {name for path, name in uses if path.partition("::")[0] not in ("crate", "self", "super")}
         self.ghosts = {}
         for module, names in re.findall(r"^ghost use (\S+)\.\{([^}]*)\};", text, re.M):
-            self.ghosts.update({name.strip(): module for name in names.split(",")})
+            self.ghosts.update({name.strip(): module for name in names.split(",") if name.strip()})
         self.fields = {}
         for struct in re.finditer(r"\bstruct (\w+) \{", text):
             for field, kind in re.findall(r"(\w+): ([^,]+),", text[struct.end():closing(text, struct.end() - 1)]):
                 self.fields[struct.group(1), field] = base(kind)
         self.items, owner = [], None
         for i, line in enumerate(lines):
-            block = re.match(r"impl (\w+)", line)
+            block = re.match(r"impl(?:<.*?>)? (?:.*\bfor )?(\w+)", line)
             owner = block.group(1) if block else None if line.startswith("}") else owner
-            start = re.match(r'(\s*)(?:pub )?(?:extern "C" )?(fn|const) (\w+)', line)
+            start = re.match(r'(\s*)(?:pub )?(?:unsafe |const (?=fn )|extern "C" )*(fn|const) (\w+)', line)
             if start:
                 indent, kind, name = start.groups()
                 end = i
@@ -176,22 +192,27 @@ def bound(text):
         head, mark = outside(clause, (" :", " ="))
         if mark == " =":
             names |= set(re.findall(NAME, head)[1:])
-    for group in re.findall(r"λ ([^.]*)\.", text) + re.findall(r"\blet (\S+) =", text) + re.findall(r"[({]([^(){}:=]*) : ", text):
+    for group in re.findall(r"λ ([^.]*)\.", text) + re.findall(r"\blet (\S+)(?: :[^=]*)? =", text) + re.findall(r"[({]([^(){}:=]*) : ", text):
         names |= set(re.findall(NAME, group))
     return names
 
 
-def cited(text):
-    """The names in a definition's text that may be definitions: no projection, no label of a record, no name that the text binds."""
-    text = re.sub(r"(?<=[\s)])\.[^\s(){};,]+", " ", text)
+def cited(text, files=()):
+    """The names in a definition's text that may be definitions: no projection, no label of a record, no name that the text binds. What stands in a file is `file.name`."""
+    text = re.sub(r"(?<=[\s)\]])\.[^\s(){};,\]]+", " ", text)
     text = re.sub(r"([{;]\s*)[^\s(){};=]+\s*=(?= |$)", r"\1", text, flags=re.M)
     text = re.sub(r"^\s+pub \S+ :", " ", text, flags=re.M)
-    return set(re.findall(r"(?:%s\.)?%s" % (NAME, NAME), text)) - bound(text)
+    names, words = bound(text), set()
+    for word in re.findall(r"%s(?:\.%s)*" % (NAME, NAME), text):
+        first, *further = word.split(".")
+        if first not in names:
+            words.add(".".join([first] + further[:1]) if first in files else first)
+    return words
 
 
 def is_cited(name, words):
     """Whether a name is among the words; a mixfix name is where all its parts are."""
-    parts = [part for part in name.split("_") if part] if "_" in name and "«" not in name else [name]
+    parts = [part for part in name.split("◌") if part] if "◌" in name and "«" not in name else [name]
     return all(part in words for part in parts)
 
 
@@ -201,7 +222,8 @@ class Definitions:
     def __init__(self, path, module, crate):
         self.path, self.module = path, module
         lines = path.read_text().splitlines()
-        own, self.imported = "Rattle·%s·specs.specs." % crate, {}
+        own, self.imported = "Rattle.%s.specs." % crate, {}
+        self.files = set(re.findall(r"^(?:pub )?use \S+ as (\S+)$", "\n".join(lines), re.M))
         for where, names, file_as in re.findall(r"^(?:pub )?use %s(\S+?)(?:\.\{([^}]*)\})?(?: as (\S+))?$" % re.escape(own), "\n".join(lines), re.M):
             for name in filter(None, map(str.strip, names.split(","))):
                 name, _, known_as = name.partition(" as ")
@@ -210,7 +232,7 @@ class Definitions:
                 self.imported[file_as + "."] = (where, None)
         self.items, begun = [], None
         for i, line in enumerate(lines + ["-- end"]):
-            start = re.match(r"(?:unfoldable |abbrev )*(?:pub )?(?:record |data )?(\S+)(?: [^:=]*)? :", line)
+            start = re.match(r"(?:unfoldable |abbrev |opaque )*(?:pub )?(?:record |data )?(\S+)(?: [^:=]*)? :", line)
             if begun and (start or line.startswith(("--", "infix", "use "))):
                 self.items.append(Item(self, begun[1], begun[0], lines[begun[0]:i]))
                 begun = None
@@ -227,7 +249,7 @@ class Definitions:
 
     def rests_on(self, item):
         """Where each definition stands that the item's text names: module and name."""
-        words = cited(item.text)
+        words = cited(item.text, self.files)
         for other in self.items:
             if other is not item and is_cited(other.name, words):
                 yield self.module, other.name
@@ -283,8 +305,9 @@ class Crate:
 
     def contract(self, function):
         """The definitions that a function's contract names."""
-        own = "Rattle·%s·specs.specs." % self.name
-        words = cited(function.head) - {name for name, _ in function.parameters} - {"«%s»" % name for name, _ in function.parameters}
+        own = "Rattle.%s.specs." % self.name
+        clauses = re.sub(r"\b(?:requires|ensures)\b\s*\*?\s*\w*\s*(?=\{)", "", function.head)
+        words = cited(clauses) - {name for name, _ in function.parameters} - {"«%s»" % name for name, _ in function.parameters}
         for name, module in function.file.ghosts.items():
             if module.startswith(own) and is_cited(name, words):
                 yield self.definition(module[len(own):], name)
