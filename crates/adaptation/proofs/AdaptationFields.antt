@@ -6,7 +6,7 @@ use mathlib.Core.List.{List}
 use native.Mathlib.Omega.{arith}
 use borrow.Author.Tests.{eqb-true, ltb-false, not-false}
 use lib.ListN.{length, take, drop}
-use Rattle.fields.specs.Choice.{if◌then◌else◌, ◌and◌, ◌is◌, ◌is_not◌, ◌is_above◌}
+use Rattle.fields.specs.Choice.{when◌then◌else◌, ◌and◌, ◌is◌, ◌is_not◌, ◌is_above◌}
 use Rattle.answers.specs.Says.{Says, given, refused}
 use Rattle.answers.specs.Refusals.{number_of}
 use Rattle.answers.specs.declared.Refusal.{Refusal}
@@ -20,15 +20,15 @@ use Rattle.adaptation.specs.declared.AdaptationFieldAnswer.{AdaptationFieldAnswe
 
 -- what holds of both choices that one test makes
 each : {A B : Type 0} (P : A → B → Type 0) (t : Bool) {a a' : A} {b b' : B}
-    → (t ≡ true → P a b) → (t ≡ false → P a' b') → P (if t then a else a') (if t then b else b')
-unfolding if◌then◌else◌
+    → (t ≡ true → P a b) → (t ≡ false → P a' b') → P (when t then a else a') (when t then b else b')
+unfolding when◌then◌else◌
 each P true f g = f refl
 each P false f g = g refl
 
 -- a field that nothing refuses, `alone` in its packet or `before` a payload, has at most 183 bytes
 no_longer : (alone before : Bool) (n : ℕ) → (not alone and not before) ≡ false → (alone and n is_not 183) ≡ false
     → (before and n is_above 182) ≡ false → n ≤ 183
-unfolding if◌then◌else◌
+unfolding when◌then◌else◌
 no_longer true before n there e l = let whole = eqb-true n 183 (not-false _ e) in omega arith
 no_longer false true n there e l = let most = ltb-false 182 n l in omega arith
 no_longer false false n there e l = absurd (true≢false there)

@@ -1,6 +1,6 @@
 -- The adaptation field and its flags: document 01, "Bytes of a packet".
 use Rattle.std.specs.Prelude.{ℕ, false, List, take, drop}
-use Rattle.fields.specs.Choice.{if◌then◌else◌, ◌and◌, ◌is◌, ◌is_not◌, ◌is_above◌}
+use Rattle.fields.specs.Choice.{when◌then◌else◌, ◌and◌, ◌is◌, ◌is_not◌, ◌is_above◌}
 use Rattle.fields.specs.SyntaxTable.{field}
 use Rattle.answers.specs.Numbers.{no_adaptation_field, adaptation_field_length}
 use Rattle.answers.specs.Says.{Says, given, refused}
@@ -59,10 +59,10 @@ adaptation_field_says (AdaptationFieldAnswer.Refused refusal) = refused (number_
 -- said of a field once there is one, by the adaptation field control and the length byte
 unfoldable pub where_present : {Values : Type 0} → ℕ → ℕ → Values → Says Values → Says Values
 where_present control n none asked =
-    if control is_not 0b10 and control is_not 0b11 then refused no_adaptation_field none
-    else if control is 0b11 and n is 0 then refused no_adaptation_field none
-    else if control is 0b10 and n is_not 183 then refused adaptation_field_length none
-    else if control is 0b11 and n is_above 182 then refused adaptation_field_length none
+    when control is_not 0b10 and control is_not 0b11 then refused no_adaptation_field none
+    else when control is 0b11 and n is 0 then refused no_adaptation_field none
+    else when control is 0b10 and n is_not 183 then refused adaptation_field_length none
+    else when control is 0b11 and n is_above 182 then refused adaptation_field_length none
     else asked
 
 -- field calls test 3 and 4 first, "then 18, 19": what is asked of the field's flags and its bytes

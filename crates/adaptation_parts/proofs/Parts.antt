@@ -10,7 +10,7 @@ use borrow.Author.Tests.{lt-ltb, le-ltb}
 use lib.ListN.{get_or, length, drop, replicate, length-drop}
 use lib.Seq.{get_or-drop}
 use Rattle.fields.specs.BitString.{number_at}
-use Rattle.fields.specs.Choice.{if◌then◌else◌}
+use Rattle.fields.specs.Choice.{when◌then◌else◌}
 use Rattle.fields.specs.SyntaxTable.{Table, size, offset, width, value_of, field}
 use Rattle.fields.proofs.BitStrings.{first_byte}
 use Rattle.fields.proofs.Choices.{test_holds, test_fails}
@@ -39,24 +39,24 @@ module _ {Values : Type 0} (flag : Bool) (rows : Table) (bytes : List ℕ) (none
 
 -- a part takes its bytes where its flag is set
 size_of_a_part : (flag : Bool) (rows : Table) (n : ℕ) → size rows ≡ n * 8
-    → size (if flag then rows else []) ≡ (if flag then n else 0) * 8
-unfolding if◌then◌else◌ size
+    → size (when flag then rows else []) ≡ (when flag then n else 0) * 8
+unfolding when◌then◌else◌ size
 size_of_a_part true rows n e = e
 size_of_a_part false rows n e = refl
 
 -- where each part begins, by the flags of those before it
 module _ (flags : AdaptationField) where
-  bits_before_opcr : size (before_opcr flags) ≡ (1 + (if flags.pcr_flag then 6 else 0)) * 8
+  bits_before_opcr : size (before_opcr flags) ≡ (1 + (when flags.pcr_flag then 6 else 0)) * 8
   unfolding before_opcr size
   bits_before_opcr =
-      let pcr = if flags.pcr_flag then program_clock_reference else [] in
+      let pcr = when flags.pcr_flag then program_clock_reference else [] in
       omega (arith, size_append before_pcr pcr, size_of_a_part flags.pcr_flag program_clock_reference 6 refl)
 
   bits_before_countdown : size (before_splice_countdown flags)
-      ≡ (1 + (if flags.pcr_flag then 6 else 0) + (if flags.opcr_flag then 6 else 0)) * 8
+      ≡ (1 + (when flags.pcr_flag then 6 else 0) + (when flags.opcr_flag then 6 else 0)) * 8
   unfolding before_splice_countdown size
   bits_before_countdown =
-      let opcr = if flags.opcr_flag then original_program_clock_reference else [] in
+      let opcr = when flags.opcr_flag then original_program_clock_reference else [] in
       omega (
         arith,
         bits_before_opcr,
@@ -65,25 +65,25 @@ module _ (flags : AdaptationField) where
       )
 
   module _ {at : ℕ} where
-    pub opcr_begins : at ≡ 1 + (if flags.pcr_flag then 6 else 0) + (if false then 6 else 0) + (if false then 1 else 0)
+    pub opcr_begins : at ≡ 1 + (when flags.pcr_flag then 6 else 0) + (when false then 6 else 0) + (when false then 1 else 0)
         → at ≡ size_in_bytes (before_opcr flags)
-    unfolding if◌then◌else◌
+    unfolding when◌then◌else◌
     opcr_begins e = omega (arith, e, bits_before_opcr)
 
     pub splice_countdown_begins :
-        at ≡ 1 + (if flags.pcr_flag then 6 else 0) + (if flags.opcr_flag then 6 else 0) + (if false then 1 else 0)
+        at ≡ 1 + (when flags.pcr_flag then 6 else 0) + (when flags.opcr_flag then 6 else 0) + (when false then 1 else 0)
         → at ≡ size_in_bytes (before_splice_countdown flags)
-    unfolding if◌then◌else◌
+    unfolding when◌then◌else◌
     splice_countdown_begins e = omega (arith, e, bits_before_countdown)
 
     pub transport_private_data_begins :
         at
-        ≡ 1 + (if flags.pcr_flag then 6 else 0) + (if flags.opcr_flag then 6 else 0)
-        + (if flags.splicing_point_flag then 1 else 0)
+        ≡ 1 + (when flags.pcr_flag then 6 else 0) + (when flags.opcr_flag then 6 else 0)
+        + (when flags.splicing_point_flag then 1 else 0)
         → at ≡ size_in_bytes (before_transport_private_data flags)
     unfolding before_transport_private_data size
     transport_private_data_begins e =
-        let countdown = if flags.splicing_point_flag then splice_countdown else [] in
+        let countdown = when flags.splicing_point_flag then splice_countdown else [] in
         omega (
           arith,
           e,
@@ -102,7 +102,7 @@ byte_of_its_row bytes at l u =
 -- the rows of an OPCR are those of a PCR, under names of its own
 pub opcr_as_pcr : (flag : Bool) (bytes : List ℕ)
     → part flag program_clock_reference bytes no_clock pcr_from ≡ part flag original_program_clock_reference bytes no_clock opcr_from
-unfolding if◌then◌else◌ size offset width value_of part
+unfolding when◌then◌else◌ size offset width value_of part
 opcr_as_pcr flag bytes = refl
 
 -- n rows of eight bits

@@ -1,6 +1,6 @@
 -- The parts of an adaptation field: document 01, "Present parts follow in that order".
 use Rattle.std.specs.Prelude.{ℕ, ◌+◌, ◌*◌, Bool, not, List, length}
-use Rattle.fields.specs.Choice.{if◌then◌else◌, ◌is_below◌}
+use Rattle.fields.specs.Choice.{when◌then◌else◌, ◌is_below◌}
 use Rattle.fields.specs.SyntaxTable.{Table, size, field}
 use Rattle.answers.specs.Numbers.{flag_clear, field_ends_before}
 use Rattle.answers.specs.Says.{Says, given, refused}
@@ -18,8 +18,8 @@ use Rattle.adaptation_parts.specs.declared.TransportPrivateData.{TransportPrivat
 -- "optional part's flag clear", then "field ends before the part does": what is read of a part from its first byte on
 unfoldable pub part : {Values : Type 0} → Bool → Table → List ℕ → Values → (List ℕ → Values) → Says Values
 part flag rows bytes none read =
-    if not flag then refused flag_clear none
-    else if length bytes * 8 is_below size rows then refused field_ends_before none
+    when not flag then refused flag_clear none
+    else when length bytes * 8 is_below size rows then refused field_ends_before none
     else given (read bytes)
 
 -- ---- PCR and OPCR

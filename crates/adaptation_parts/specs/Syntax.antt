@@ -1,6 +1,6 @@
 -- Syntax tables of ISO/IEC 13818-1: adaptation_field() (2.4.3.4), behind its flags.
 use Rattle.std.specs.Prelude.{ℕ, ◌/◌, List, [], ◌∷◌, ◌++◌, drop, replicate}
-use Rattle.fields.specs.Choice.{if◌then◌else◌}
+use Rattle.fields.specs.Choice.{when◌then◌else◌}
 use Rattle.fields.specs.SyntaxTable.{Table, size, field}
 use Rattle.adaptation.specs.Syntax.{adaptation_field_flags}
 use Rattle.adaptation.specs.declared.AdaptationField.{AdaptationField}
@@ -50,12 +50,12 @@ before_pcr = adaptation_field_flags
 
 -- if (PCR_flag == '1') { .. }
 unfoldable pub before_opcr : AdaptationField → Table
-before_opcr flags = before_pcr ++ (if flags.pcr_flag then program_clock_reference else [])
+before_opcr flags = before_pcr ++ (when flags.pcr_flag then program_clock_reference else [])
 
 -- if (OPCR_flag == '1') { .. }
 unfoldable pub before_splice_countdown : AdaptationField → Table
-before_splice_countdown flags = before_opcr flags ++ (if flags.opcr_flag then original_program_clock_reference else [])
+before_splice_countdown flags = before_opcr flags ++ (when flags.opcr_flag then original_program_clock_reference else [])
 
 -- if (splicing_point_flag == '1') { .. }
 unfoldable pub before_transport_private_data : AdaptationField → Table
-before_transport_private_data flags = before_splice_countdown flags ++ (if flags.splicing_point_flag then splice_countdown else [])
+before_transport_private_data flags = before_splice_countdown flags ++ (when flags.splicing_point_flag then splice_countdown else [])

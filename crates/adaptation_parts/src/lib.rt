@@ -2,7 +2,7 @@
 #![tactic(auto)]
 
 ghost use Rattle.std.specs.Prelude.{◌≡◌, ◌+◌, ◌≤◌, ◌<◌, length, take, drop};
-ghost use Rattle.fields.specs.Choice.{if◌then◌else◌};
+ghost use Rattle.fields.specs.Choice.{when◌then◌else◌};
 ghost use Rattle.packet.specs.Header.{size};
 ghost use Rattle.adaptation.specs.AdaptationField.{start};
 ghost use Rattle.adaptation_parts.specs.Syntax.{program_clock_reference, splice_countdown};
@@ -65,7 +65,7 @@ fn bytes_of(packet: &[u8], n: u8) -> &[u8]
 
 // Where a part begins in the field: behind the flags, and behind the PCR, the OPCR and the splice countdown that stand before it.
 fn behind(pcr: bool, opcr: bool, countdown: bool) -> usize
-    ensures { (result ≡ 1 + (if pcr then 6 else 0) + (if opcr then 6 else 0) + (if countdown then 1 else 0)) × (result ≤ 14) }
+    ensures { (result ≡ 1 + (when pcr then 6 else 0) + (when opcr then 6 else 0) + (when countdown then 1 else 0)) × (result ≤ 14) }
 {
     PCR_OFFSET + PCR_SIZE * pcr as usize + PCR_SIZE * opcr as usize + countdown as usize
 }

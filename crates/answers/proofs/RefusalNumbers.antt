@@ -2,7 +2,7 @@
 use Prim.Native.Nat.{ℕ}
 use mathlib.Core.Path.{◌≡◌, refl, sym, ap, ◌∙◌}
 use native.Mathlib.Omega.{arith}
-use Rattle.fields.specs.Choice.{if◌then◌else◌, ◌is◌}
+use Rattle.fields.specs.Choice.{when◌then◌else◌, ◌is◌}
 use Rattle.answers.specs.declared.Refusal.{Refusal}
 use Rattle.answers.specs.declared.Refusal.TheVariants.{PacketSize, NoSyncByte, BufferSize, NoPayload, PayloadEmpty, PayloadBeyond, Under3Bytes, Under8Bytes, SectionUnder12, NoAdaptationField, AdaptationFieldLength, FlagClear, FieldEndsBefore, WalkAtEnd, StateNotSound, PositionAboveLength}
 use Rattle.answers.specs.Refusals.{number_of}
@@ -10,25 +10,25 @@ use Rattle.answers.specs.Refusals.{number_of}
 -- the refusal of a number
 pub numbered : ℕ → Refusal
 numbered n =
-    if n is 3 then PacketSize
-    else if n is 4 then NoSyncByte
-    else if n is 5 then BufferSize
-    else if n is 6 then NoPayload
-    else if n is 7 then PayloadEmpty
-    else if n is 8 then PayloadBeyond
-    else if n is 10 then Under3Bytes
-    else if n is 12 then Under8Bytes
-    else if n is 16 then SectionUnder12
-    else if n is 18 then NoAdaptationField
-    else if n is 19 then AdaptationFieldLength
-    else if n is 20 then FlagClear
-    else if n is 21 then FieldEndsBefore
-    else if n is 23 then WalkAtEnd
-    else if n is 25 then StateNotSound
+    when n is 3 then PacketSize
+    else when n is 4 then NoSyncByte
+    else when n is 5 then BufferSize
+    else when n is 6 then NoPayload
+    else when n is 7 then PayloadEmpty
+    else when n is 8 then PayloadBeyond
+    else when n is 10 then Under3Bytes
+    else when n is 12 then Under8Bytes
+    else when n is 16 then SectionUnder12
+    else when n is 18 then NoAdaptationField
+    else when n is 19 then AdaptationFieldLength
+    else when n is 20 then FlagClear
+    else when n is 21 then FieldEndsBefore
+    else when n is 23 then WalkAtEnd
+    else when n is 25 then StateNotSound
     else PositionAboveLength
 
 pub numbered_number : (r : Refusal) → numbered (number_of r) ≡ r
-unfolding numbered if◌then◌else◌
+unfolding numbered when◌then◌else◌
 numbered_number PacketSize = refl
 numbered_number NoSyncByte = refl
 numbered_number BufferSize = refl
@@ -56,18 +56,18 @@ no_refusals_number n other r e = other (ap number_of (sym (ap numbered e) ∙ nu
 
 -- so 0, which refuses nothing
 pub no_refusal_is_0 : (r : Refusal) → number_of r ≡ 0 → ⊥
-unfolding numbered if◌then◌else◌
+unfolding numbered when◌then◌else◌
 no_refusal_is_0 = no_refusals_number 0 (λ (e : ◌≡◌ {A = ℕ} 26 0). omega arith)
 
 -- and the numbers of the rows that tell where a walk stopped
 pub no_refusal_is_24 : (r : Refusal) → number_of r ≡ 24 → ⊥
-unfolding numbered if◌then◌else◌
+unfolding numbered when◌then◌else◌
 no_refusal_is_24 = no_refusals_number 24 (λ (e : ◌≡◌ {A = ℕ} 26 24). omega arith)
 
 pub no_refusal_is_27 : (r : Refusal) → number_of r ≡ 27 → ⊥
-unfolding numbered if◌then◌else◌
+unfolding numbered when◌then◌else◌
 no_refusal_is_27 = no_refusals_number 27 (λ (e : ◌≡◌ {A = ℕ} 26 27). omega arith)
 
 pub no_refusal_is_28 : (r : Refusal) → number_of r ≡ 28 → ⊥
-unfolding numbered if◌then◌else◌
+unfolding numbered when◌then◌else◌
 no_refusal_is_28 = no_refusals_number 28 (λ (e : ◌≡◌ {A = ℕ} 26 28). omega arith)

@@ -6,7 +6,7 @@ use mathlib.Core.List.{List, [], ◌∷◌}
 use native.Mathlib.Omega.{arith}
 use borrow.Author.Tests.{eqb-true}
 use lib.ListN.{length, take, drop}
-use Rattle.fields.specs.Choice.{if◌then◌else◌, ◌is◌}
+use Rattle.fields.specs.Choice.{when◌then◌else◌, ◌is◌}
 use Rattle.fields.proofs.Choices.{test_holds, test_fails, of_either}
 use Rattle.delivered.specs.declared.Holder.{Holder}
 use Rattle.delivered.specs.Delivered.{part_of, part_held_by, section_of}
@@ -34,7 +34,7 @@ part_there bytes start len =
 module _ (packet buffer : List ℕ) (answer : ℕ) (place : JambpepperPlace) where
   -- the bytes that C takes for the holder's
   abbrev held : List ℕ
-  held = if place.holder is 2 then buffer else packet
+  held = when place.holder is 2 then buffer else packet
 
   held_there : NotEmpty (part_held_by (holder_of place.holder) packet buffer place.start place.length)
       → part_held_by (holder_of place.holder) packet buffer place.start place.length

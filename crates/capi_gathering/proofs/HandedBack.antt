@@ -7,7 +7,7 @@ use mathlib.Core.List.{List, [], ◌∷◌}
 use native.Mathlib.Omega.{arith}
 use borrow.Author.Tests.{eqb-true, eq-eqb, lt-ltb, not-true}
 use lib.ListN.{length}
-use Rattle.fields.specs.Choice.{if◌then◌else◌, ◌is◌}
+use Rattle.fields.specs.Choice.{when◌then◌else◌, ◌is◌}
 use Rattle.fields.proofs.Choices.{test_holds, test_fails, of_both, either_way, and_holds, both_hold}
 use Rattle.marks.proofs.Marking.{with_mark_four}
 use Rattle.labels.specs.Label.{label_of}
@@ -33,7 +33,7 @@ use Rattle.capi_gathering.specs.Gathering.{told_to_c, worked_for_c}
 -- ---- number by number
 
 form_again : (form : Form) → form_of (form_number form) ≡ form
-unfolding form_of if◌then◌else◌
+unfolding form_of when◌then◌else◌
 form_again Form.Compact = refl
 form_again Form.Full = refl
 form_again Form.Once = refl
@@ -44,12 +44,12 @@ form_is_named Form.Full = refl
 form_is_named Form.Once = refl
 
 flag_again : (is_set : Bool) → (flag is_set is 1) ≡ is_set
-unfolding flag if◌then◌else◌
+unfolding flag when◌then◌else◌
 flag_again true = refl
 flag_again false = refl
 
 flag_is_named : (is_set : Bool) → names_flag (flag is_set) ≡ true
-unfolding flag if◌then◌else◌
+unfolding flag when◌then◌else◌
 flag_is_named true = refl
 flag_is_named false = refl
 
@@ -62,11 +62,11 @@ pub record Beside (reader : Reader) (words : List ℕ) : Type 0 where
 
 -- a fresh state is the reader's: no words beside it, or in ONCE five that are 0
 pub fresh_as_the_readers : (form : Form) → fresh_for_c (form_number form) ≡ reader_for_c (fresh form)
-unfolding flag if◌then◌else◌
+unfolding flag when◌then◌else◌
 fresh_as_the_readers form = refl
 
 pub fresh_beside : Beside (fresh Form.Compact) [] × Beside (fresh Form.Full) [] × Beside (fresh Form.Once) (0 ∷ 0 ∷ 0 ∷ 0 ∷ 0 ∷ [])
-unfolding memory_in names_memory if◌then◌else◌
+unfolding memory_in names_memory when◌then◌else◌
 fresh_beside =
     (record { again = refl; named = refl }, record { again = refl; named = refl }, record { again = refl; named = refl })
 
@@ -131,7 +131,7 @@ answer_none answer form section other =
     (of_both (λ (m : Memory). m ≡ no_memory) _ _ _ refl (of_both (λ (m : Memory). m ≡ no_memory) _ _ _ refl refl))
 
 no_words : (words : List ℕ) → length words ≡ 0 → ((memory : Memory) → written memory words ≡ words) × (memory_in words ≡ no_memory)
-unfolding put memory_in if◌then◌else◌
+unfolding put memory_in when◌then◌else◌
 no_words [] l = (λ memory. refl, refl)
 no_words (first ∷ rest) l = absurd (let m = l in omega arith)
 

@@ -7,7 +7,7 @@ use native.Mathlib.Nat.{mod-eq_of_lt}
 use native.Mathlib.Omega.{arith}
 use borrow.Author.Tests.{eqb-true, leb-true, ltb-true, not-false}
 use lib.ListN.{length}
-use Rattle.fields.specs.Choice.{if◌then◌else◌, ◌is◌}
+use Rattle.fields.specs.Choice.{when◌then◌else◌, ◌is◌}
 use Rattle.fields.proofs.Choices.{test_holds, test_fails, either_way, and_holds}
 use Rattle.memory.specs.declared.Form.{Form}
 use Rattle.memory.specs.declared.Memory.{Memory}
@@ -61,7 +61,7 @@ words_in_range form words named =
 words_of_its_form : (number : ℕ) (form : Form) → form ≡ form_of number → (words : List ℕ) → names_memory number words ≡ true
     → (answer : ℕ) (section : List ℕ)
     → words_after answer words section ≡ written (after_answer answer form (memory_in words) section) words
-unfolding names_memory form_of if◌then◌else◌
+unfolding names_memory form_of when◌then◌else◌
 words_of_its_form number form its words named answer section =
     words_remember answer words section (words_in_range number words named)
     ∙ either_way _ _ _ _ named

@@ -1,6 +1,6 @@
 -- The reader's state and its steps, as C sees them: numbers in the place of forms, holders and flags.
 use Rattle.std.specs.Prelude.{ℕ, ◌^◌, Bool, false, List, length}
-use Rattle.fields.specs.Choice.{if◌then◌else◌, ◌and◌, ◌is◌, ◌is_not◌, ◌is_below◌, ◌is_at_most◌}
+use Rattle.fields.specs.Choice.{when◌then◌else◌, ◌and◌, ◌is◌, ◌is_not◌, ◌is_below◌, ◌is_at_most◌}
 use Rattle.memory.specs.declared.Form.{Form}
 use Rattle.memory_words.specs.Words.{memory_words, word, memory_in, written}
 use Rattle.gathering_rules.specs.Checks.{checked}
@@ -31,8 +31,8 @@ names_form number = number is_at_most 2
 -- the form of a number that names one
 unfoldable pub form_of : ℕ → Form
 form_of number =
-    if number is 0 then Form.Compact
-    else if number is 1 then Form.Full
+    when number is 0 then Form.Compact
+    else when number is 1 then Form.Full
     else Form.Once
 
 abbrev pub holder_number : Holder → ℕ
@@ -63,7 +63,7 @@ names_flag number = number is_at_most 1
 -- larger than its four numbers
 unfoldable pub names_memory : ℕ → List ℕ → Bool
 names_memory form words =
-    if form is_not form_number Form.Once then length words is 0
+    when form is_not form_number Form.Once then length words is 0
     else (length words is memory_words and word words 0 is_below 2 ^ 33)
 
 -- whether the form, the flag and the words are ones that a state has, and what is reserved is 0
@@ -122,5 +122,5 @@ refused_for_c state packet buffer = answered_for_c (checked false packet buffer)
 -- a step, tail or head, on the reader that the state names; where it names none, memory and buffer are the same too
 unfoldable pub worked_for_c : (Reader → List ℕ → List ℕ → Outcome) → JambpepperReader → List ℕ → List ℕ → List ℕ → OutcomeForC
 worked_for_c step_of state words packet buffer =
-    if names_reader state words then told_to_c words (step_of (reader_from_c state words) packet buffer)
+    when names_reader state words then told_to_c words (step_of (reader_from_c state words) packet buffer)
     else outcome_for_c (refused_for_c state packet (length buffer)) words buffer

@@ -1,7 +1,7 @@
 -- Document 01's "Sixteen to check by hand": one table, and the single statement that the sixteen stand in it, in order, and that each holds.
 -- Assumes nothing.
 use Rattle.std.specs.Prelude.{ℕ, ◌≡◌, refl, true, false, List, [], ◌∷◌, length, drop, replicate}
-use Rattle.fields.specs.Choice.{if◌then◌else◌, ◌is_above◌}
+use Rattle.fields.specs.Choice.{when◌then◌else◌, ◌is_above◌}
 use Rattle.fields.specs.BitString.{low_bits, bit_string, number, number_at}
 use Rattle.fields.specs.SyntaxTable.{size, offset, width, value_of}
 use Rattle.answers.specs.Says.{given, refused}
@@ -222,7 +222,7 @@ abbrev ◌then◌ : {A B : Type 0} → A → B → A × B
 ◌then◌ a b = (a, b)
 
 pub sixteen : Sixteen
-unfolding if◌then◌else◌ low_bits bit_string number number_at size offset width value_of ◌plus_polynomial_if◌ bit_step bit_enters bits_enter crc_from crc_of of_a_packet packet_header.fields_of packet_header.header_of starting_at payload_behind payload_of flags_of where_present of_a_field adaptation_field_of part pcr_of section_header.fields_of section_header.header_of table_fields_of table_header_of found_at program_of stream_of any_marked agrees sound_memory sound_counts sound checked from_a_place from_the_payload repeats start_refusal tail_from tail_of begun started head_from head_of
+unfolding when◌then◌else◌ low_bits bit_string number number_at size offset width value_of ◌plus_polynomial_if◌ bit_step bit_enters bits_enter crc_from crc_of of_a_packet packet_header.fields_of packet_header.header_of starting_at payload_behind payload_of flags_of where_present of_a_field adaptation_field_of part pcr_of section_header.fields_of section_header.header_of table_fields_of table_header_of found_at program_of stream_of any_marked agrees sound_memory sound_counts sound checked from_a_place from_the_payload repeats start_refusal tail_from tail_of begun started head_from head_of
 sixteen = (
   refl,
   refl

@@ -6,7 +6,7 @@ use mathlib.Core.List.{List}
 use native.Mathlib.Omega.{arith}
 use lib.ListN.{length}
 use borrow.Author.Tests.{lt-ltb, le-ltb, ltb-false}
-use Rattle.fields.specs.Choice.{if◌then◌else◌, ◌is_below◌, ◌is_above◌}
+use Rattle.fields.specs.Choice.{when◌then◌else◌, ◌is_below◌, ◌is_above◌}
 use Rattle.fields.proofs.Choices.{test_holds, test_fails, second_chosen}
 use Rattle.answers.specs.Numbers.{under3_bytes, syntax_indicator, under8_bytes, length_above1021, already_delivered}
 use Rattle.answers.specs.Says.{given, refused}
@@ -23,18 +23,18 @@ use Rattle.gathering_rules.specs.Start.{least_held, takes_syntax, header_refusal
 -- three tests before a last answer: one of them refuses, or the last answer is given
 abbrev chosen : Bool → Bool → Bool → ℕ → ℕ
 chosen syntax few long last =
-    if syntax then syntax_indicator else if few then under8_bytes else if long then length_above1021 else last
+    when syntax then syntax_indicator else when few then under8_bytes else when long then length_above1021 else last
 
 refused_before : (syntax few long : Bool) (last : ℕ) → (chosen syntax few long 0 ≡ 0 → ⊥)
     → chosen syntax few long 0 ≡ chosen syntax few long last
-unfolding if◌then◌else◌
+unfolding when◌then◌else◌
 refused_before true few long last refuses = refl
 refused_before false true long last refuses = refl
 refused_before false false true last refuses = refl
 refused_before false false false last refuses = absurd (refuses refl)
 
 left_to_last : (syntax few long : Bool) (last : ℕ) → chosen syntax few long 0 ≡ 0 → chosen syntax few long last ≡ last
-unfolding if◌then◌else◌
+unfolding when◌then◌else◌
 left_to_last true few long last none = absurd (let n = none in omega arith)
 left_to_last false true long last none = absurd (let n = none in omega arith)
 left_to_last false false true last none = absurd (let n = none in omega arith)
@@ -49,20 +49,20 @@ module _ (form : Form) (memory : Memory) (bytes : List ℕ) where
   -- the header, where there is one, and then what is remembered
   start_with_header : (header : SectionCommonHeader) → given header ≡ header_of bytes
       → start_refusal form memory bytes
-      ≡ (if not (takes_syntax form header.section_syntax_indicator) then syntax_indicator
-      else if length bytes is_below least_held form then under8_bytes
-      else if header.section_length is_above length_limit then length_above1021
-      else if repeats form memory bytes then already_delivered
+      ≡ (when not (takes_syntax form header.section_syntax_indicator) then syntax_indicator
+      else when length bytes is_below least_held form then under8_bytes
+      else when header.section_length is_above length_limit then length_above1021
+      else when repeats form memory bytes then already_delivered
       else 0)
   unfolding start_refusal fields_of
   start_with_header header is =
       let known = header_given bytes header is in
       test_fails _ _ _ (le-ltb _ _ known.0)
       ∙ ap
-      (λ (h : SectionCommonHeader). if not (takes_syntax form h.section_syntax_indicator) then syntax_indicator
-      else if length bytes is_below least_held form then under8_bytes
-      else if h.section_length is_above length_limit then length_above1021
-      else if repeats form memory bytes then already_delivered else 0)
+      (λ (h : SectionCommonHeader). when not (takes_syntax form h.section_syntax_indicator) then syntax_indicator
+      else when length bytes is_below least_held form then under8_bytes
+      else when h.section_length is_above length_limit then length_above1021
+      else when repeats form memory bytes then already_delivered else 0)
       (sym known.1)
 
   pub three_bytes : (header : SectionCommonHeader) → given header ≡ header_of bytes → 3 ≤ length bytes
@@ -76,7 +76,7 @@ module _ (form : Form) (memory : Memory) (bytes : List ℕ) where
 
   pub start_left_to_memory : (header : SectionCommonHeader) → given header ≡ header_of bytes
       → header_refusal form header (length bytes) ≡ 0 → start_refusal form memory bytes
-      ≡ (if repeats form memory bytes then already_delivered else 0)
+      ≡ (when repeats form memory bytes then already_delivered else 0)
   unfolding header_refusal
   start_left_to_memory header is none = start_with_header header is ∙ left_to_last _ _ _ _ none
 

@@ -1,6 +1,6 @@
 -- What every step tests first.
 use Rattle.std.specs.Prelude.{ℕ, ◌≡◌, Bool, not, List}
-use Rattle.fields.specs.Choice.{if◌then◌else◌, ◌is_not◌}
+use Rattle.fields.specs.Choice.{when◌then◌else◌, ◌is_not◌}
 use Rattle.answers.specs.Numbers.{buffer_size, state_not_sound}
 use Rattle.answers.specs.Says.{Says, refused}
 use Rattle.packet.specs.Header.{of_a_packet}
@@ -14,8 +14,8 @@ buffer_length = 1024
 unfoldable pub checked : Bool → List ℕ → ℕ → Says ℕ
 checked is_sound packet buffer =
     of_a_packet packet 0
-    (if buffer is_not buffer_length then refused buffer_size 0
-    else if not is_sound then refused state_not_sound 0
+    (when buffer is_not buffer_length then refused buffer_size 0
+    else when not is_sound then refused state_not_sound 0
     else payload_behind packet)
 
 -- an answer that speaks of packets and not of what the host handed back: neither 5 nor 25

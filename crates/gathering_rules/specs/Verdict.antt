@@ -1,6 +1,6 @@
 -- The answer to a whole section.
 use Rattle.std.specs.Prelude.{ℕ, List, length}
-use Rattle.fields.specs.Choice.{if◌then◌else◌, ◌is_not◌, ◌is_below◌}
+use Rattle.fields.specs.Choice.{when◌then◌else◌, ◌is_not◌, ◌is_below◌}
 use Rattle.answers.specs.Numbers.{delivered, section_under12, crc_not_zero}
 use Rattle.mpegts_crc.specs.Crc.{crc_of}
 use Rattle.memory.specs.declared.Form.{Form}
@@ -8,8 +8,8 @@ use Rattle.memory.specs.declared.Form.{Form}
 -- "under 12 bytes, 16; CRC remainder not zero, 17; else 2"
 unfoldable pub crc_verdict : List ℕ → ℕ
 crc_verdict section =
-    if length section is_below 12 then section_under12
-    else if crc_of section is_not 0 then crc_not_zero
+    when length section is_below 12 then section_under12
+    else when crc_of section is_not 0 then crc_not_zero
     else delivered
 
 -- "A whole section, FULL and ONCE: .. COMPACT: 2"

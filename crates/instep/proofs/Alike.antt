@@ -7,7 +7,7 @@ use native.Mathlib.Omega.{arith}
 use lib.ListN.{length, take, drop, length-take, length-drop}
 use lib.Seq.{take-take}
 use borrow.Author.Tests.{ltb-false, not-true, not-false}
-use Rattle.fields.specs.Choice.{if◌then◌else◌}
+use Rattle.fields.specs.Choice.{when◌then◌else◌}
 use Rattle.fields.proofs.LaidBytes.{laid_length, laid_up_to_end, laid_at_front}
 use Rattle.fields.proofs.Choices.{of_both}
 use Rattle.packet.specs.Header.{size}
@@ -36,8 +36,8 @@ pub record Alike (packet : List ℕ) (a b : Outcome) : Type 0 where
 
 module _ (packet : List ℕ) where
   alike_either_way : (t : Bool) (a b a' b' : Outcome) → (t ≡ true → Alike packet a a') → (t ≡ false → Alike packet b b')
-      → Alike packet (if t then a else b) (if t then a' else b')
-  unfolding if◌then◌else◌
+      → Alike packet (when t then a else b) (when t then a' else b')
+  unfolding when◌then◌else◌
   alike_either_way true a b a' b' f g = f refl
   alike_either_way false a b a' b' f g = g refl
 
@@ -71,7 +71,7 @@ module _ (packet : List ℕ) where
       ≡ 0
       → Alike packet (outcome (record { reader = reader; place = in_buffer len; answer = 2 }) x)
       (outcome (record { reader = reader; place = in_buffer len; answer = 2 }) y)
-  unfolding seen section_of part_held_by if◌then◌else◌
+  unfolding seen section_of part_held_by when◌then◌else◌
   delivered_alike reader len x y l e none =
       let step : Step = record { reader = reader; place = in_buffer len; answer = 2 } in
       record {

@@ -4,7 +4,7 @@ use mathlib.Core.Path.{◌≡◌, refl, sym, ap, ap₂, ◌∙◌, subst}
 use mathlib.Core.Bool.{Bool, true}
 use mathlib.Core.List.{List, [], ◌∷◌}
 use lib.ListN.{length, take}
-use Rattle.fields.specs.Choice.{if◌then◌else◌}
+use Rattle.fields.specs.Choice.{when◌then◌else◌}
 use Rattle.answers.specs.Says.{given}
 use Rattle.packet.specs.Payload.{payload_of}
 use Rattle.memory.specs.declared.Form.{Form}
@@ -63,7 +63,7 @@ over_alike (packet ∷ packets) reader x y s lx ly same =
 -- where the payload is found, a sound state with 1,024 bytes goes on from it
 pub place_of : (packet : List ℕ) → (payload_of packet).number ≡ 0 → (is_sound : Bool) (buffer : ℕ) → is_sound ≡ true → buffer ≡ buffer_length
     → given (payload_of packet).values ≡ checked is_sound packet buffer
-unfolding checked payload_of if◌then◌else◌
+unfolding checked payload_of when◌then◌else◌
 place_of packet found is_sound buffer s l =
     rw (s, l) (ap (λ (n : ℕ). record { number = n; values = (payload_of packet).values }) (sym found))
 

@@ -7,7 +7,7 @@ use native.Mathlib.Omega.{arith}
 use lib.ListN.{length, take, drop, length-take, length-drop, length-append, take-append-drop}
 use lib.Seq.{take_all, take-append-add, drop-drop}
 use borrow.Author.Tests.{eqb-true, eqb-false, ltb-true, ltb-false, leb-true, le-ltb, not-true, not-false}
-use Rattle.fields.specs.Choice.{if◌then◌else◌}
+use Rattle.fields.specs.Choice.{when◌then◌else◌}
 use Rattle.fields.proofs.Choices.{test_holds, test_fails, of_both, of_either, both_hold, second_chosen}
 use Rattle.fields.proofs.LaidBytes.{laid_length, laid_up_to_end, laid_at_front}
 use Rattle.answers.specs.Numbers.{delivered}
@@ -134,12 +134,12 @@ part_within bytes start len fits =
 
 pub read_in_buffer : (packet buffer : List ℕ) (len : ℕ) → len ≤ length buffer → section_of packet buffer 2 (in_buffer len)
     ≡ take len buffer
-unfolding section_of part_held_by if◌then◌else◌
+unfolding section_of part_held_by when◌then◌else◌
 read_in_buffer packet buffer len fits = part_within buffer 0 len (omega arith)
 
 pub read_in_packet : (packet buffer : List ℕ) (at len : ℕ) → at + len ≤ length packet → section_of packet buffer 2 (in_packet at len)
     ≡ take len (drop at packet)
-unfolding section_of part_held_by if◌then◌else◌
+unfolding section_of part_held_by when◌then◌else◌
 read_in_packet packet buffer at len fits = part_within packet at len fits
 
 -- ---- the payload
@@ -148,9 +148,9 @@ read_in_packet packet buffer at len fits = part_within packet at len fits
 from_the_payload_lem : (reader : Reader) (packet buffer : List ℕ) → sound reader ≡ true → length buffer ≡ buffer_length
     → (go_on : ℕ → Outcome)
     → from_the_payload reader packet buffer go_on
-    ≡ (if has_payload packet then go_on (payload_of packet).values else outcome
+    ≡ (when has_payload packet then go_on (payload_of packet).values else outcome
     (answered (payload_of packet).number reader) buffer)
-unfolding from_the_payload from_a_place checked payload_of if◌then◌else◌
+unfolding from_the_payload from_a_place checked payload_of when◌then◌else◌
 from_the_payload_lem reader packet buffer s l go_on = rw (s, l) refl
 
 -- no refusal of the payload is 2
@@ -173,7 +173,7 @@ payload_not_delivered packet =
 
 -- and a payload is found only in 188 bytes
 payload_sized : (packet : List ℕ) → has_payload packet ≡ true → length packet ≡ size
-unfolding checked payload_of if◌then◌else◌
+unfolding checked payload_of when◌then◌else◌
 payload_sized packet placed = (found_place true packet buffer_length placed).sized
 
 module _ (packet : List ℕ) where

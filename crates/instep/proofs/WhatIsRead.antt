@@ -7,7 +7,7 @@ use native.Mathlib.Omega.{arith}
 use lib.ListN.{length, drop}
 use lib.Seq.{drop-drop}
 use borrow.Author.Tests.{eqb-true}
-use Rattle.fields.specs.Choice.{if◌then◌else◌, ◌is◌}
+use Rattle.fields.specs.Choice.{when◌then◌else◌, ◌is◌}
 use Rattle.fields.proofs.Choices.{second_chosen, either_way}
 use Rattle.answers.specs.Says.{Says, given}
 use Rattle.answers.specs.declared.Refusal.{Refusal}
@@ -54,8 +54,8 @@ place_behind_header is_sound packet buffer found =
 
 -- ---- two packets
 
-same_choice : {A : Type 0} (t : Bool) (a b c : A) → (t ≡ true → a ≡ b) → (if t then a else c) ≡ (if t then b else c)
-unfolding if◌then◌else◌
+same_choice : {A : Type 0} (t : Bool) (a b c : A) → (t ≡ true → a ≡ b) → (when t then a else c) ≡ (when t then b else c)
+unfolding when◌then◌else◌
 same_choice true a b c f = f refl
 same_choice false a b c f = refl
 

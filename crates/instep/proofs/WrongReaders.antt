@@ -5,7 +5,7 @@ use mathlib.Core.Bool.{true, false, true≢false}
 use mathlib.Core.List.{List, [], ◌∷◌, ◌++◌}
 use native.Mathlib.Omega.{arith}
 use lib.ListN.{length}
-use Rattle.fields.specs.Choice.{if◌then◌else◌}
+use Rattle.fields.specs.Choice.{when◌then◌else◌}
 use Rattle.fields.specs.BitString.{low_bits, bit_string, number, number_at}
 use Rattle.fields.specs.SyntaxTable.{offset, width, value_of}
 use Rattle.packet.specs.Header.{of_a_packet}
@@ -19,12 +19,12 @@ use Rattle.instep.specs.WrongReaders.{of_three_bytes, ShortDelivery, DeliveryWit
 
 three_bytes_fed : fed_from of_three_bytes [] ≡ 0x00 ∷ 0x30 ∷ 0xff ∷ []
 unfolding
-    if◌then◌else◌ low_bits bit_string number number_at offset width value_of
+    when◌then◌else◌ low_bits bit_string number number_at offset width value_of
     of_a_packet starting_at payload_behind payload_of all_continuing fed_from
 three_bytes_fed = refl
 
 length_of_the_three : section_length (0x00 ∷ 0x30 ∷ 0xff ∷ []) ≡ 255
-unfolding if◌then◌else◌ low_bits bit_string number number_at offset width value_of
+unfolding when◌then◌else◌ low_bits bit_string number number_at offset width value_of
 length_of_the_three = refl
 
 pub no_short_delivery : ShortDelivery → ⊥

@@ -2,7 +2,7 @@
 -- lies at or behind a later pointer's target, with CRC remainder zero in the two forms that test it." All of it is said from the packets fed, the section and the
 -- form: no reader's state or buffer comes into it.
 use Rattle.std.specs.Prelude.{ℕ, ◌+◌, ◌≤◌, ◌≡◌, Bool, true, false, not, List, [], ◌∷◌, ◌++◌, length, take, drop}
-use Rattle.fields.specs.Choice.{if◌then◌else◌, ◌and◌, ◌is◌}
+use Rattle.fields.specs.Choice.{when◌then◌else◌, ◌and◌, ◌is◌}
 use Rattle.packet.specs.Payload.{payload_of}
 use Rattle.mpegts_crc.specs.Crc.{crc_of}
 use Rattle.psi.specs.Header.{section_length}
@@ -30,8 +30,8 @@ from_target packet = drop (pointer (payload packet)) (rest (payload packet))
 -- pointer bytes and what lies at or behind a later pointer's target"; else the whole payload
 unfoldable pub continuing : List ℕ → List ℕ
 continuing packet =
-    if not (has_payload packet) then []
-    else if unit_start packet then take (pointer (payload packet)) (rest (payload packet))
+    when not (has_payload packet) then []
+    else when unit_start packet then take (pointer (payload packet)) (rest (payload packet))
     else payload packet
 
 -- ---- of packets

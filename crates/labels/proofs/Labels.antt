@@ -4,7 +4,7 @@ use native.Mathlib.Omega.{arith}
 use mathlib.Core.List.{List}
 use lib.ListN.{length, drop, length-drop}
 use borrow.Author.Tests.{ltb-false}
-use Rattle.fields.specs.Choice.{if◌then◌else◌}
+use Rattle.fields.specs.Choice.{when◌then◌else◌}
 use Rattle.fields.specs.SyntaxTable.{field, offset, width, value_of}
 use Rattle.fields.proofs.BitStrings.{number_at_lt}
 use Rattle.fields.proofs.Choices.{of_either}
@@ -18,15 +18,15 @@ use Rattle.labels.specs.Label.{table_id_of, table_of}
 
 -- each has the bits of its field, and is 0 where there is none
 table_id_has_8_bits : (section : List ℕ) → 3 ≤ length section → field section_header "table_id" section < 256
-unfolding value_of offset width if◌then◌else◌
+unfolding value_of offset width when◌then◌else◌
 table_id_has_8_bits section l = number_at_lt section 0 8 (omega arith)
 
 id_has_16_bits : (section : List ℕ) → 8 ≤ length section → field table_header "table_id_extension" (drop 3 section) < 65536
-unfolding value_of offset width if◌then◌else◌
+unfolding value_of offset width when◌then◌else◌
 id_has_16_bits section l = number_at_lt (drop 3 section) 0 16 (simp length-drop (omega arith))
 
 section_number_has_8_bits : (section : List ℕ) → 8 ≤ length section → field table_header "section_number" (drop 3 section) < 256
-unfolding value_of offset width if◌then◌else◌
+unfolding value_of offset width when◌then◌else◌
 section_number_has_8_bits section l = number_at_lt (drop 3 section) 24 8 (simp length-drop (omega arith))
 
 pub table_id_below_256 : (section : List ℕ) → table_id_of section < 256

@@ -7,7 +7,7 @@ use native.Mathlib.Omega.{arith}
 use lib.ListN.{length, length-set}
 use lib.Seq.{get_or-set_same, get_or-set_other, ext_get_or}
 use borrow.Author.Tests.{eqb-true, eqb-false, not-false}
-use Rattle.fields.specs.Choice.{if◌then◌else◌, ◌is◌}
+use Rattle.fields.specs.Choice.{when◌then◌else◌, ◌is◌}
 use Rattle.fields.proofs.Choices.{test_holds, test_fails, by_test, and_holds}
 use Rattle.marks.specs.Marks.{bit, word_at, no_marks, four_words, any_marked, marked, with_mark}
 use Rattle.marks.specs.declared.Marks.{Marks}
@@ -34,7 +34,7 @@ module _ (marks : Marks) (four : four_words marks ≡ true) (number : ℕ) (smal
       (λ t. let other : (k / 64 ≡ number / 64 → ⊥) = eqb-false _ _ t in rw get_or-set_other)
 
   -- on its number, and on those that were marked before
-  pub mark_law : (k : ℕ) → marked (with_mark marks number) k ≡ (if k is number then true else marked marks k)
+  pub mark_law : (k : ℕ) → marked (with_mark marks number) k ≡ (when k is number then true else marked marks k)
   mark_law k =
       by_test (k is number)
       (λ t. let e = eqb-true k number t in ap (marked (with_mark marks number)) e ∙ mark_there ∙ sym (test_holds _ _ _ t))
@@ -100,7 +100,7 @@ same_marks a b fa fb same =
 
 -- where none of the 256 is, the words are those of no mark
 pub no_number_marked : (marks : Marks) → Fits marks → ((k : ℕ) → k < 256 → marked marks k ≡ false) → any_marked marks ≡ false
-unfolding any_marked if◌then◌else◌
+unfolding any_marked when◌then◌else◌
 no_number_marked marks fits none =
     ap any_marked (same_marks marks no_marks fits none_fits (λ k h. none k h ∙ sym (none_marked k)))
 

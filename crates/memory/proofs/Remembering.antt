@@ -5,7 +5,7 @@ use mathlib.Core.Bool.{Bool, true, false, false≢true}
 use mathlib.Core.List.{List}
 use native.Mathlib.Omega.{arith}
 use borrow.Author.Tests.{le-leb, eq-eqb, ne_eqb, eqb-true}
-use Rattle.fields.specs.Choice.{if◌then◌else◌, ◌is◌}
+use Rattle.fields.specs.Choice.{when◌then◌else◌, ◌is◌}
 use Rattle.fields.proofs.Choices.{test_holds, test_fails, of_both, either_way, and_holds, both_hold}
 use Rattle.answers.specs.Numbers.{delivered, pointer_beyond_rest, under3_bytes}
 use Rattle.marks.specs.Marks.{no_marks, four_words, any_marked, marked}
@@ -21,7 +21,7 @@ use Rattle.memory.specs.Memory.{no_memory, may_remember, sound_memory, same_flag
 -- ---- sound memories
 
 pub nothing_remembered_sound : (form : Form) → sound_memory form no_memory ≡ true
-unfolding sound_memory agrees any_marked if◌then◌else◌
+unfolding sound_memory agrees any_marked when◌then◌else◌
 nothing_remembered_sound form = refl
 
 pub four_words_lem : (form : Form) (memory : Memory) → sound_memory form memory ≡ true → four_words memory.marks ≡ true
@@ -69,13 +69,13 @@ pub record Agreeing (memory : Memory) (label : Label) : Type 0 where
   pub current : memory.current_next_indicator ≡ label.current_next_indicator
 
 same_flags : (flag other : Bool) → same_flag flag other ≡ true → flag ≡ other
-unfolding if◌then◌else◌
+unfolding when◌then◌else◌
 same_flags true other h = sym h
 same_flags false true h = absurd (false≢true h)
 same_flags false false h = refl
 
 same_as_itself : (flag : Bool) → same_flag flag flag ≡ true
-unfolding if◌then◌else◌
+unfolding when◌then◌else◌
 same_as_itself true = refl
 same_as_itself false = refl
 
@@ -128,26 +128,26 @@ nothing_where_none_may form never memory h =
 -- ---- what a delivery marks
 
 marked_of_either : (same : Bool) (marks : Marks) (k : ℕ)
-    → marked (if same then marks else no_marks) k ≡ (if same then marked marks k else false)
-unfolding if◌then◌else◌
+    → marked (when same then marks else no_marks) k ≡ (when same then marked marks k else false)
+unfolding when◌then◌else◌
 marked_of_either true marks k = refl
 marked_of_either false marks k = none_marked k
 
 marked_for : (memory : Memory) (label : Label) (k : ℕ)
-    → marked (marks_for memory label) k ≡ (if agrees memory label then marked memory.marks k else false)
+    → marked (marks_for memory label) k ≡ (when agrees memory label then marked memory.marks k else false)
 unfolding marks_for
 marked_for memory label k = marked_of_either (agrees memory label) memory.marks k
 
 -- its own number, and those that were marked with the same four
 pub marked_on_delivery : (memory : Memory) (section : List ℕ) → four_words memory.marks ≡ true → (k : ℕ)
     → marked (on_delivery Form.Once memory section).marks k
-    ≡ (if k is (label_of section).section_number then true else if agrees memory (label_of section) then marked memory.marks k
+    ≡ (when k is (label_of section).section_number then true else when agrees memory (label_of section) then marked memory.marks k
     else false)
 unfolding on_delivery
 marked_on_delivery memory section four k =
     let label = label_of section in
     mark_law (marks_for memory label) (marks_for_four memory label four) label.section_number (number_below_256 section) k
-    ∙ ap (λ (before : Bool). if k is label.section_number then true else before) (marked_for memory label k)
+    ∙ ap (λ (before : Bool). when k is label.section_number then true else before) (marked_for memory label k)
 
 -- ---- by the answer
 

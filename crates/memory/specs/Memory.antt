@@ -1,6 +1,6 @@
 -- What ONCE remembers: request 2, "A bad copy must not silence good ones".
 use Rattle.std.specs.Prelude.{ℕ, Bool, false, not, List}
-use Rattle.fields.specs.Choice.{if◌then◌else◌, ◌and◌, ◌is◌, ◌is_at_most◌}
+use Rattle.fields.specs.Choice.{when◌then◌else◌, ◌and◌, ◌is◌, ◌is_at_most◌}
 use Rattle.answers.specs.Numbers.{delivered, pointer_beyond_rest, under3_bytes}
 use Rattle.marks.specs.Marks.{no_marks, four_words, any_marked, marked, with_mark}
 use Rattle.marks.specs.declared.Marks.{Marks}
@@ -16,7 +16,7 @@ no_memory = record { table_id = 0; id = 0; version = 0; current_next_indicator =
 -- ---- what a section is compared with
 
 abbrev pub same_flag : Bool → Bool → Bool
-same_flag flag other = if flag then other else not other
+same_flag flag other = when flag then other else not other
 
 -- "all four agree"
 unfoldable pub agrees : Memory → Label → Bool
@@ -34,7 +34,7 @@ repeats Form.Once memory bytes = agrees memory (label_of bytes) and marked memor
 
 -- "A delivered section with the same four adds its mark; one with another four starts the memory anew with its own mark only"
 unfoldable pub marks_for : Memory → Label → Marks
-marks_for memory label = if agrees memory label then memory.marks else no_marks
+marks_for memory label = when agrees memory label then memory.marks else no_marks
 
 abbrev pub remembering : Memory → Label → Memory
 remembering memory label =
@@ -54,14 +54,14 @@ on_delivery Form.Once memory section = remembering memory (label_of section)
 
 -- what is remembered where a start is refused: 10 forgets it
 abbrev pub after_refusal : ℕ → Memory → Memory
-after_refusal refusal memory = if refusal is under3_bytes then no_memory else memory
+after_refusal refusal memory = when refusal is under3_bytes then no_memory else memory
 
 -- the same of every answer of a step: 2 remembers the section that was delivered, "9 and 10 still forget all of it", and no other answer changes it
 unfoldable pub after_answer : ℕ → Form → Memory → List ℕ → Memory
 after_answer answer form memory section =
-    if answer is delivered then on_delivery form memory section
-    else if answer is pointer_beyond_rest then no_memory
-    else if answer is under3_bytes then no_memory
+    when answer is delivered then on_delivery form memory section
+    else when answer is pointer_beyond_rest then no_memory
+    else when answer is under3_bytes then no_memory
     else memory
 
 -- ---- sound memories
@@ -76,4 +76,4 @@ may_remember Form.Once version = version is_at_most 31
 unfoldable pub sound_memory : Form → Memory → Bool
 sound_memory form memory =
     four_words memory.marks and
-    (if any_marked memory.marks then may_remember form memory.version else agrees memory no_label)
+    (when any_marked memory.marks then may_remember form memory.version else agrees memory no_label)

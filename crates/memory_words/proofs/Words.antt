@@ -7,7 +7,7 @@ use native.Mathlib.Omega.{arith}
 use lib.ListN.{length, get_or, set}
 use borrow.Author.Tests.{eq-eqb, ne_eqb, eqb-true, eqb-false}
 use mir.Val.{bool_byte}
-use Rattle.fields.specs.Choice.{if◌then◌else◌, ◌is◌}
+use Rattle.fields.specs.Choice.{when◌then◌else◌, ◌is◌}
 use Rattle.fields.proofs.Choices.{test_holds, test_fails, second_chosen, of_both, of_either, either_way, by_test, and_holds}
 use Rattle.answers.specs.Numbers.{delivered}
 use Rattle.marks.specs.Marks.{no_marks, marked}
@@ -21,8 +21,8 @@ use Rattle.memory.proofs.Remembering.{memory_stays, nothing_repeats, Agreeing, a
 use Rattle.memory_words.specs.Words.{memory_words, word, numbers_of, numbers_in, words_of, memory_in, agree, put, written, remembers, words_after}
 
 -- a bool as a byte
-pub byte_is_1_or_0 : (b : Bool) → bool_byte b ≡ (if b then 1 else 0)
-unfolding if◌then◌else◌
+pub byte_is_1_or_0 : (b : Bool) → bool_byte b ≡ (when b then 1 else 0)
+unfolding when◌then◌else◌
 byte_is_1_or_0 true = refl
 byte_is_1_or_0 false = refl
 
@@ -95,20 +95,20 @@ module _ (a b c d : ℕ) (ha : a < 256) (hb : b < 65536) (hc : c < 2) (hd : d < 
   unfolding all
   version_again = omega arith
 
-flag_again : (b : Bool) → ((if b then 1 else 0) is 1) ≡ b
-unfolding if◌then◌else◌
+flag_again : (b : Bool) → ((when b then 1 else 0) is 1) ≡ b
+unfolding when◌then◌else◌
 flag_again true = refl
 flag_again false = refl
 
-flag_below_2 : (b : Bool) → (if b then 1 else 0) < 2
-unfolding if◌then◌else◌
+flag_below_2 : (b : Bool) → (when b then 1 else 0) < 2
+unfolding when◌then◌else◌
 flag_below_2 true = omega arith
 flag_below_2 false = omega arith
 
 pub memory_again : (memory : Memory) → Fits memory → memory_in (words_of memory) ≡ memory
 unfolding memory_in all
 memory_again memory fits =
-    let flag : ℕ = if memory.current_next_indicator then 1 else 0 in
+    let flag : ℕ = when memory.current_next_indicator then 1 else 0 in
     let small = flag_below_2 memory.current_next_indicator in
     test_fails _ _ _ refl
     ∙ simp (
@@ -141,7 +141,7 @@ memory_in_fits words =
 abbrev pub InRange : List ℕ → Type 0
 InRange words = word words 0 < 2 ^ 33
 
-bit_of : (n : ℕ) → n < 2 → (if n is 1 then 1 else 0) ≡ n
+bit_of : (n : ℕ) → n < 2 → (when n is 1 then 1 else 0) ≡ n
 bit_of n h =
     by_test (n is 1) (λ t. test_holds _ _ _ t ∙ sym (eqb-true n 1 t))
     (λ t. let other = eqb-false n 1 t in test_fails _ _ _ t ∙ (let none : 0 ≡ n = omega arith in none))
@@ -158,7 +158,7 @@ last_33 n = omega arith
 
 -- the four numbers that are read in a word are its last 33 bits
 number_again : (n : ℕ)
-    → n % 2 ^ 8 + n / 2 ^ 8 % 2 ^ 16 * 2 ^ 8 + (if n / 2 ^ 24 % 2 is 1 then 1 else 0) * 2 ^ 24 + n / 2 ^ 25 % 2 ^ 8 * 2 ^ 25
+    → n % 2 ^ 8 + n / 2 ^ 8 % 2 ^ 16 * 2 ^ 8 + (when n / 2 ^ 24 % 2 is 1 then 1 else 0) * 2 ^ 24 + n / 2 ^ 25 % 2 ^ 8 * 2 ^ 25
     ≡ n % 2 ^ 33
 number_again n =
     let bit = bit_of (n / 2 ^ 24 % 2) (omega arith) in
@@ -212,7 +212,7 @@ pub record LabelFits (label : Label) : Type 0 where
   pub bytes : label.id < 65536
   pub version : label.version < 256
 
-same_bit : (a b : Bool) → ◌≡◌ {A = ℕ} (if a then 1 else 0) (if b then 1 else 0) → a ≡ b
+same_bit : (a b : Bool) → ◌≡◌ {A = ℕ} (when a then 1 else 0) (when b then 1 else 0) → a ≡ b
 same_bit a b e = sym (flag_again a) ∙ ap (λ (n : ℕ). n is 1) e ∙ flag_again b
 
 numbers_tell : (memory : Memory) (label : Label) → Fits memory → LabelFits label → numbers_of memory ≡ numbers_in label
@@ -254,7 +254,7 @@ marks_that_do_not words label h =
 
 pub delivered_words : (answer : ℕ) (words section : List ℕ) → answer ≡ delivered
     → words_after answer words section ≡ written (remembering (memory_in words) (label_of section)) words
-unfolding words_after remembers after_answer on_delivery if◌then◌else◌
+unfolding words_after remembers after_answer on_delivery when◌then◌else◌
 delivered_words answer words section e =
     rw e
     (by_test (length words is memory_words)
@@ -273,7 +273,7 @@ forgets answer words section not2 h =
 
 pub forgotten_words : (answer : ℕ) (words section : List ℕ) → (answer ≡ delivered → ⊥) → remembers words answer ≡ true
     → words_after answer words section ≡ put 0 no_marks words
-unfolding words_after if◌then◌else◌
+unfolding words_after when◌then◌else◌
 forgotten_words answer words section not2 h =
     rw h (ap (λ (m : Memory). written m words) (forgets answer words section not2 h))
 

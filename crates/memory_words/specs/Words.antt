@@ -1,6 +1,6 @@
 -- A memory as five words of 64 bits.
 use Rattle.std.specs.Prelude.{ℕ, ◌+◌, ◌*◌, ◌/◌, ◌%◌, ◌^◌, Bool, true, false, List, [], ◌∷◌, length, get_or}
-use Rattle.fields.specs.Choice.{if◌then◌else◌, ◌and◌, ◌is◌, ◌is_not◌}
+use Rattle.fields.specs.Choice.{when◌then◌else◌, ◌and◌, ◌is◌, ◌is_not◌}
 use Rattle.answers.specs.Numbers.{delivered, pointer_beyond_rest, under3_bytes}
 use Rattle.marks.specs.Marks.{word_at}
 use Rattle.marks.specs.declared.Marks.{Marks}
@@ -17,7 +17,7 @@ word words i = get_or words i 0
 
 -- four numbers in one word: the table id in its last 8 bits, then 16 of the id, the current bit, and the version
 abbrev pub numbers : ℕ → ℕ → Bool → ℕ → ℕ
-numbers table_id id current version = table_id + id * 2 ^ 8 + (if current then 1 else 0) * 2 ^ 24 + version * 2 ^ 25
+numbers table_id id current version = table_id + id * 2 ^ 8 + (when current then 1 else 0) * 2 ^ 24 + version * 2 ^ 25
 
 -- those that are remembered, and those that a section says
 abbrev pub numbers_of : Memory → ℕ
@@ -36,7 +36,7 @@ words_of memory = five_of (numbers_of memory) memory.marks
 -- the memory of five words; of any other count none
 unfoldable pub memory_in : List ℕ → Memory
 memory_in words =
-    if length words is_not memory_words then no_memory
+    when length words is_not memory_words then no_memory
     else
     record {
       table_id = word words 0 % 2 ^ 8;
@@ -48,7 +48,7 @@ memory_in words =
 
 -- five words, with others or with a memory written over them
 unfoldable pub put : ℕ → Marks → List ℕ → List ℕ
-put first marks words = if length words is memory_words then five_of first marks else words
+put first marks words = when length words is memory_words then five_of first marks else words
 
 abbrev pub written : Memory → List ℕ → List ℕ
 written memory words = put (numbers_of memory) memory.marks words
@@ -60,12 +60,12 @@ agree words label = length words is memory_words and agrees (memory_in words) la
 -- whether an answer changes what these words remember: 2, 9 and 10 do
 unfoldable pub remembers : List ℕ → ℕ → Bool
 remembers words answer =
-    if length words is_not memory_words then false
-    else if answer is delivered then true
-    else if answer is pointer_beyond_rest then true
+    when length words is_not memory_words then false
+    else when answer is delivered then true
+    else when answer is pointer_beyond_rest then true
     else answer is under3_bytes
 
 -- the words that ONCE lends, after a step: every other answer leaves them
 unfoldable pub words_after : ℕ → List ℕ → List ℕ → List ℕ
 words_after answer words section =
-    if remembers words answer then written (after_answer answer Form.Once (memory_in words) section) words else words
+    when remembers words answer then written (after_answer answer Form.Once (memory_in words) section) words else words

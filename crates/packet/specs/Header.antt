@@ -1,6 +1,6 @@
 -- A packet and its header: document 01, "Bytes of a packet".
 use Rattle.std.specs.Prelude.{ℕ, false, List, length}
-use Rattle.fields.specs.Choice.{if◌then◌else◌, ◌is◌, ◌is_not◌}
+use Rattle.fields.specs.Choice.{when◌then◌else◌, ◌is◌, ◌is_not◌}
 use Rattle.fields.specs.SyntaxTable.{field}
 use Rattle.answers.specs.Numbers.{packet_size, no_sync_byte}
 use Rattle.answers.specs.Says.{Says, given, refused}
@@ -19,8 +19,8 @@ sync_byte = 0x47
 -- "Packet header, payload and field calls test 3 and 4 first": what is said of a packet once it is one
 unfoldable pub of_a_packet : {Values : Type 0} → List ℕ → Values → Says Values → Says Values
 of_a_packet packet none asked =
-    if length packet is_not size then refused packet_size none
-    else if field transport_packet "sync_byte" packet is_not sync_byte then refused no_sync_byte none
+    when length packet is_not size then refused packet_size none
+    else when field transport_packet "sync_byte" packet is_not sync_byte then refused no_sync_byte none
     else asked
 
 -- all numbers of a refused header are 0

@@ -1,6 +1,6 @@
 -- The payload's place: document 01, "Bytes of a packet".
 use Rattle.std.specs.Prelude.{ℕ, ◌+◌, List, drop}
-use Rattle.fields.specs.Choice.{if◌then◌else◌, ◌is◌, ◌is_above◌}
+use Rattle.fields.specs.Choice.{when◌then◌else◌, ◌is◌, ◌is_above◌}
 use Rattle.fields.specs.SyntaxTable.{field}
 use Rattle.answers.specs.Numbers.{no_payload, payload_empty, payload_beyond}
 use Rattle.answers.specs.Says.{Says, given, refused}
@@ -25,15 +25,15 @@ length_byte packet = field adaptation_field_length "adaptation_field_length" (dr
 -- "payload start is 188", then "payload start above 188"; else the payload starts there
 unfoldable pub starting_at : ℕ → Says ℕ
 starting_at start =
-    if start is size then refused payload_empty 0
-    else if start is_above size then refused payload_beyond 0
+    when start is size then refused payload_empty 0
+    else when start is_above size then refused payload_beyond 0
     else given start
 
 -- "With 01 the payload starts at 4; with 11 at 5 plus byte 4"
 unfoldable pub payload_behind : List ℕ → Says ℕ
 payload_behind packet =
-    if control_of packet is 0b01 then starting_at 4
-    else if control_of packet is 0b11 then starting_at (5 + length_byte packet)
+    when control_of packet is 0b01 then starting_at 4
+    else when control_of packet is 0b11 then starting_at (5 + length_byte packet)
     else refused no_payload 0
 
 unfoldable pub payload_of : List ℕ → Says ℕ

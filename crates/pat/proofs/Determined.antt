@@ -1,7 +1,7 @@
 -- Any two answers that a contract allows are equal. Assumes nothing.
 use mathlib.Core.Path.{◌≡◌, refl, sym, ap, ◌∙◌}
 use borrow.Author.Tests.{ne_eqb}
-use Rattle.fields.specs.Choice.{if◌then◌else◌, ◌is◌}
+use Rattle.fields.specs.Choice.{when◌then◌else◌, ◌is◌}
 use Rattle.fields.specs.Determines.{Determines}
 use Rattle.fields.proofs.Choices.{test_fails}
 use Rattle.answers.specs.Says.{Says}
@@ -15,12 +15,12 @@ use Rattle.pat.proofs.PatSection.program_at.Reads as program_at
 -- the answer of which that is said
 answer_of : Says (Found ProgramDescriptor) → ProgramAnswer
 answer_of said =
-    if said.number is 0 then ProgramAnswer.Is said.values.entry said.values.next
-    else if said.number is 24 then ProgramAnswer.Tail said.values.offset
+    when said.number is 0 then ProgramAnswer.Is said.values.entry said.values.next
+    else when said.number is 24 then ProgramAnswer.Tail said.values.offset
     else ProgramAnswer.Refused (numbered said.number)
 
 said_of_it : (answer : ProgramAnswer) → answer_of (program_says answer) ≡ answer
-unfolding answer_of if◌then◌else◌
+unfolding answer_of when◌then◌else◌
 said_of_it (ProgramAnswer.Is program next) = refl
 said_of_it (ProgramAnswer.Tail offset) = refl
 said_of_it (ProgramAnswer.Refused r) =

@@ -6,7 +6,7 @@ use native.Mathlib.Nat.{div-one}
 use native.Mathlib.Omega.{arith}
 use borrow.Author.Tests.{le-leb, lt-leb, eq-eqb, ne_eqb}
 use lib.ListN.{length, drop, length-drop}
-use Rattle.fields.specs.Choice.{if◌then◌else◌, ◌is◌}
+use Rattle.fields.specs.Choice.{when◌then◌else◌, ◌is◌}
 use Rattle.fields.specs.SyntaxTable.{size, behind, width}
 use Rattle.fields.specs.Word.{word_of}
 use Rattle.fields.proofs.SyntaxTables.{field_of_word}
@@ -33,8 +33,8 @@ module _ (body : List ℕ) (position : ℕ) where
     found_with program = found program (position + 4)
 
     entry_found : program_at body position
-        ≡ found_with (if word / 65536 % 65536 is 0 then Network (word % 8192) else Program (word / 65536 % 65536) (word % 8192))
-    unfolding found_with program_of size behind width if◌then◌else◌
+        ≡ found_with (when word / 65536 % 65536 is 0 then Network (word % 8192) else Program (word / 65536 % 65536) (word % 8192))
+    unfolding found_with program_of size behind width when◌then◌else◌
     entry_found =
         found_entry program_kind body position (omega arith) (le-leb 4 (length (drop position body)) (simp length-drop (omega arith)))
         ∙ simp (

@@ -6,7 +6,7 @@ use native.Mathlib.Omega.{arith}
 use borrow.Author.Tests.{leb-true, leb-false}
 use lib.ListN.{length, drop, get_or, length-drop}
 use lib.Seq.{drop-drop}
-use Rattle.fields.specs.Choice.{if◌then◌else◌, ◌is_at_most◌}
+use Rattle.fields.specs.Choice.{when◌then◌else◌, ◌is_at_most◌}
 use Rattle.fields.proofs.Choices.{by_test}
 use Rattle.answers.specs.Numbers.{walk_at_end, pat_tail}
 use Rattle.walks.specs.Walk.{Walked, walked, exactly, entries_in, left_behind, left_from}
@@ -55,7 +55,7 @@ module _ (any : ProgramDescriptor) where
 
   program_in_turn : (turns position : ℕ) (bytes : List ℕ) (i : ℕ) → i < length (entries_in program_kind turns position bytes)
       → get_or (entries_in program_kind turns position bytes) i any ≡ program_of (drop (4 * i) bytes)
-  unfolding entries_in if◌then◌else◌
+  unfolding entries_in when◌then◌else◌
   program_in_turn zero position bytes i l = absurd (omega arith)
   program_in_turn (suc turns) position bytes i l =
       by_test (4 is_at_most length bytes)
@@ -71,7 +71,7 @@ module _ (any : ProgramDescriptor) where
 bytes_in_turns : (turns position : ℕ) (bytes : List ℕ)
     → (4 * length (entries_in program_kind turns position bytes) + length (left_behind program_kind turns bytes) ≡ length bytes)
     × (left_from program_kind turns position bytes ≡ position + 4 * length (entries_in program_kind turns position bytes))
-unfolding entries_in left_behind left_from if◌then◌else◌
+unfolding entries_in left_behind left_from when◌then◌else◌
 bytes_in_turns zero position bytes = (omega arith, omega arith)
 bytes_in_turns (suc turns) position bytes =
     by_test (4 is_at_most length bytes)

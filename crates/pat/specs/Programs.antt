@@ -1,6 +1,6 @@
 -- The programs of a PAT's body: document 01, "Sections, CRC, PAT, PMT".
 use Rattle.std.specs.Prelude.{ℕ, List, length}
-use Rattle.fields.specs.Choice.{if◌then◌else◌, ◌is◌, ◌is_at_most◌}
+use Rattle.fields.specs.Choice.{when◌then◌else◌, ◌is◌, ◌is_at_most◌}
 use Rattle.fields.specs.SyntaxTable.{field}
 use Rattle.answers.specs.Numbers.{pat_tail}
 use Rattle.answers.specs.Says.{Says, refused}
@@ -14,7 +14,7 @@ use Rattle.pat.specs.declared.ProgramAnswer.{ProgramAnswer}
 -- "program number, 3 bits skipped, PID; number 0 means network"
 unfoldable pub program_of : List ℕ → ProgramDescriptor
 program_of entry =
-    if field program_entry "program_number" entry is 0 then Network (field network_entry "network_PID" entry)
+    when field program_entry "program_number" entry is 0 then Network (field network_entry "network_PID" entry)
     else Program (field program_entry "program_number" entry) (field program_entry "program_map_PID" entry)
 
 -- "PAT entry: 4 bytes"; "Keep 24 for a PAT tail of one to three bytes"

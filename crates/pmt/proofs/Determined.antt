@@ -1,7 +1,7 @@
 -- Any two answers that a contract allows are equal. Assumes nothing.
 use mathlib.Core.Path.{◌≡◌, refl, sym, ap, ◌∙◌}
 use borrow.Author.Tests.{ne_eqb}
-use Rattle.fields.specs.Choice.{if◌then◌else◌, ◌is◌}
+use Rattle.fields.specs.Choice.{when◌then◌else◌, ◌is◌}
 use Rattle.fields.specs.Determines.{Determines}
 use Rattle.fields.proofs.Choices.{test_fails}
 use Rattle.answers.specs.Says.{Says}
@@ -26,13 +26,13 @@ one_start (PmtAnswer.TooShort m a) (PmtAnswer.TooShort n b) e =
 -- the answer of which that is said
 stream_answer_of : Says (Found StreamInfo) → StreamAnswer
 stream_answer_of said =
-    if said.number is 0 then StreamAnswer.Is said.values.entry said.values.next
-    else if said.number is 27 then StreamAnswer.Under5 said.values.offset
-    else if said.number is 28 then StreamAnswer.InfoPastEnd said.values.offset
+    when said.number is 0 then StreamAnswer.Is said.values.entry said.values.next
+    else when said.number is 27 then StreamAnswer.Under5 said.values.offset
+    else when said.number is 28 then StreamAnswer.InfoPastEnd said.values.offset
     else StreamAnswer.Refused (numbered said.number)
 
 said_of_the_stream : (answer : StreamAnswer) → stream_answer_of (stream_says answer) ≡ answer
-unfolding stream_answer_of if◌then◌else◌
+unfolding stream_answer_of when◌then◌else◌
 said_of_the_stream (StreamAnswer.Is stream next) = refl
 said_of_the_stream (StreamAnswer.Under5 offset) = refl
 said_of_the_stream (StreamAnswer.InfoPastEnd offset) = refl

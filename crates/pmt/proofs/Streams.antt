@@ -7,7 +7,7 @@ use native.Mathlib.Nat.{div-one, add_assoc}
 use native.Mathlib.Omega.{arith}
 use borrow.Author.Tests.{le-leb, lt-leb, lt-ltb, le-ltb}
 use lib.ListN.{length, drop, length-drop}
-use Rattle.fields.specs.Choice.{if◌then◌else◌, ◌is_at_most◌}
+use Rattle.fields.specs.Choice.{when◌then◌else◌, ◌is_at_most◌}
 use Rattle.fields.specs.SyntaxTable.{size, behind, width}
 use Rattle.fields.specs.Word.{word_of}
 use Rattle.fields.proofs.Choices.{test_holds, test_fails}
@@ -40,7 +40,7 @@ module _ (body : List ℕ) (position : ℕ) where
     five_there = le-leb 5 (length (drop position body)) (simp length-drop (omega arith))
 
     info_length_lem : info_length (drop position body) ≡ word % 4096
-    unfolding size behind width if◌then◌else◌
+    unfolding size behind width when◌then◌else◌
     info_length_lem = simp (field_of_word stream_header body position 5 word (omega arith) refl read, div-one)
 
     -- info past the end
@@ -62,7 +62,7 @@ module _ (body : List ℕ) (position : ℕ) where
           info = record { start = position + 5; len = word % 4096 };
         })
         (position + 5 + word % 4096)
-    unfolding stream_of size behind width if◌then◌else◌
+    unfolding stream_of size behind width when◌then◌else◌
     stream_found within =
         found_entry stream_kind body position (omega arith)
         (test_holds _ _ _ five_there

@@ -6,7 +6,7 @@ use mathlib.Core.List.{List, [], ◌∷◌}
 use native.Mathlib.Omega.{arith}
 use borrow.Author.Tests.{leb-true, leb-false, le-leb}
 use lib.ListN.{length, drop, length-drop}
-use Rattle.fields.specs.Choice.{if◌then◌else◌}
+use Rattle.fields.specs.Choice.{when◌then◌else◌}
 use Rattle.fields.proofs.Choices.{test_holds, and_holds, of_both, by_test}
 use Rattle.answers.specs.Numbers.{walk_at_end, stream_under5, info_past_end}
 use Rattle.walks.specs.Walk.{Walked, walked, exactly, entries_in, left_behind, left_from}
@@ -86,7 +86,7 @@ EndToEnd from (stream ∷ later) to =
 
 lie_in_turns : (turns position : ℕ) (bytes : List ℕ)
     → EndToEnd position (entries_in stream_kind turns position bytes) (left_from stream_kind turns position bytes)
-unfolding entries_in left_from stream_of if◌then◌else◌
+unfolding entries_in left_from stream_of when◌then◌else◌
 lie_in_turns zero position bytes = refl
 lie_in_turns (suc turns) position bytes =
     let sum : position + 5 + info_length bytes ≡ position + (5 + info_length bytes) = omega arith in

@@ -1,6 +1,6 @@
 -- The start of a PMT's body: document 01, "Sections, CRC, PAT, PMT".
 use Rattle.std.specs.Prelude.{ℕ, ◌+◌, List, length}
-use Rattle.fields.specs.Choice.{if◌then◌else◌, ◌is_below◌, ◌is_above◌}
+use Rattle.fields.specs.Choice.{when◌then◌else◌, ◌is_below◌, ◌is_above◌}
 use Rattle.fields.specs.SyntaxTable.{field}
 use Rattle.answers.specs.Numbers.{pmt_too_short}
 use Rattle.answers.specs.Says.{Says, given, refused}
@@ -45,6 +45,6 @@ section_of body =
 -- "under 4 bytes, 22 with 4 needed; 4 plus .. above the length, 22 with that sum needed"
 unfoldable pub start_of : List ℕ → Says Start
 start_of body =
-    if length body is_below 4 then too_short 4 (length body)
-    else if streams_start body is_above length body then too_short (streams_start body) (length body)
+    when length body is_below 4 then too_short 4 (length body)
+    else when streams_start body is_above length body then too_short (streams_start body) (length body)
     else started (section_of body)

@@ -1,6 +1,6 @@
 -- The streams of a PMT's body: document 01, "Sections, CRC, PAT, PMT".
 use Rattle.std.specs.Prelude.{ℕ, ◌+◌, List, length, drop}
-use Rattle.fields.specs.Choice.{if◌then◌else◌, ◌and◌, ◌is_at_most◌, ◌is_below◌}
+use Rattle.fields.specs.Choice.{when◌then◌else◌, ◌and◌, ◌is_at_most◌, ◌is_below◌}
 use Rattle.fields.specs.SyntaxTable.{field}
 use Rattle.answers.specs.Numbers.{stream_under5, info_past_end}
 use Rattle.answers.specs.Says.{Says, refused}
@@ -27,7 +27,7 @@ stream_of position entry =
 
 -- "27 for a stream entry under 5 bytes and 28 for stream info past the end"
 abbrev pub why_no_stream : List ℕ → ℕ
-why_no_stream bytes = if length bytes is_below 5 then stream_under5 else info_past_end
+why_no_stream bytes = when length bytes is_below 5 then stream_under5 else info_past_end
 
 -- "5 bytes and the info": none fits under 5, nor where the info passes the end
 abbrev pub stream_kind : Kind StreamInfo

@@ -7,7 +7,7 @@ use native.Mathlib.Omega.{arith}
 use borrow.Author.Tests.{ltb-true, ltb-false}
 use lib.ListN.{length, take, drop, length-drop, take-append-drop}
 use lib.Seq.{take-add}
-use Rattle.fields.specs.Choice.{if◌then◌else◌, ◌is_below◌}
+use Rattle.fields.specs.Choice.{when◌then◌else◌, ◌is_below◌}
 use Rattle.fields.specs.SyntaxTable.{size, offset, width, behind, value_of}
 use Rattle.fields.specs.Word.{word_of}
 use Rattle.fields.proofs.Choices.{first_chosen, second_chosen}
@@ -41,23 +41,23 @@ table_header_field section word l e name = field_of_word table_header section 3 
 -- ---- section_length has 12 bits, version_number 5
 
 pub section_length_below_4096 : (bytes : List ℕ) → 3 ≤ length bytes → section_length bytes < 4096
-unfolding value_of offset width if◌then◌else◌
+unfolding value_of offset width when◌then◌else◌
 section_length_below_4096 bytes l = number_at_lt bytes 12 12 (omega arith)
 
 pub version_number_below_32 : (section : List ℕ) → 8 ≤ length section → version_number section < 32
-unfolding value_of offset width if◌then◌else◌
+unfolding value_of offset width when◌then◌else◌
 version_number_below_32 section l = number_at_lt (drop 3 section) 18 5 (simp length-drop (omega arith))
 
 -- three bytes tell how many a section has, whatever follows them
 pub wanted_by_front : (bytes behind : List ℕ) → 3 ≤ length bytes → wanted (bytes ++ behind) ≡ wanted bytes
-unfolding value_of offset width if◌then◌else◌
+unfolding value_of offset width when◌then◌else◌
 wanted_by_front bytes behind l = ap (λ (n : ℕ). 3 + n) (number_at_front bytes behind 12 12 (omega arith))
 
 -- ---- a call that refuses fewer than n bytes
 
 module _ {Values : Type 0} (bytes : List ℕ) (n : ℕ) (refusal : Refusal) (none asked : Values) where
   said : Says Values
-  said = if length bytes is_below n then refused (number_of refusal) none else given asked
+  said = when length bytes is_below n then refused (number_of refusal) none else given asked
 
   -- what it gives is what was asked of so many bytes
   enough : (values : Values) → given values ≡ said → (n ≤ length bytes) × (values ≡ asked)

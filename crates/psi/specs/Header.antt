@@ -1,6 +1,6 @@
 -- The headers of a section: document 01, "Sections, CRC, PAT, PMT".
 use Rattle.std.specs.Prelude.{ℕ, ◌+◌, Bool, false, List, length, drop}
-use Rattle.fields.specs.Choice.{if◌then◌else◌, ◌is◌, ◌is_below◌}
+use Rattle.fields.specs.Choice.{when◌then◌else◌, ◌is◌, ◌is_below◌}
 use Rattle.fields.specs.SyntaxTable.{field}
 use Rattle.answers.specs.Numbers.{under3_bytes, under8_bytes}
 use Rattle.answers.specs.Says.{Says, given, refused}
@@ -55,7 +55,7 @@ header_says (HeaderAnswer.Refused refusal) = refused (number_of refusal) no_head
 
 -- "Section header calls on fewer than 3 bytes answer 10"
 unfoldable pub header_of : List ℕ → Says SectionCommonHeader
-header_of bytes = if length bytes is_below 3 then refused under3_bytes no_header else given (fields_of bytes)
+header_of bytes = when length bytes is_below 3 then refused under3_bytes no_header else given (fields_of bytes)
 
 -- ---- the table header
 
@@ -94,4 +94,4 @@ table_header_says (TableHeaderAnswer.Refused refusal) = refused (number_of refus
 
 -- "table header calls on a section of fewer than 8 bytes 12"
 unfoldable pub table_header_of : List ℕ → Says TableSyntaxHeader
-table_header_of section = if length section is_below 8 then refused under8_bytes no_table_header else given (table_fields_of section)
+table_header_of section = when length section is_below 8 then refused under8_bytes no_table_header else given (table_fields_of section)

@@ -5,7 +5,7 @@ use mathlib.Core.Bool.{Bool}
 use mathlib.Core.List.{List}
 use lib.ListN.{length}
 use borrow.Author.Tests.{ne_eqb}
-use Rattle.fields.specs.Choice.{if◌then◌else◌}
+use Rattle.fields.specs.Choice.{when◌then◌else◌}
 use Rattle.fields.proofs.Choices.{test_fails}
 use Rattle.answers.specs.Says.{given, refused}
 use Rattle.answers.specs.Refusals.{number_of}
@@ -28,7 +28,7 @@ module _ (reader : Reader) (packet buffer : List ℕ) where
   -- it goes on from a place that is found
   pub goes_on : (go_on : ℕ → Outcome) (start : ℕ) → given start ≡ checked (sound reader) packet (length buffer)
       → from_the_payload reader packet buffer go_on ≡ go_on start
-  unfolding from_the_payload from_a_place if◌then◌else◌
+  unfolding from_the_payload from_a_place when◌then◌else◌
   goes_on go_on start e = rw (← e) refl
 
   -- and a refusal leaves state and buffer

@@ -6,7 +6,7 @@ use mathlib.Core.List.{List, [], ◌∷◌}
 use native.Mathlib.Omega.{arith}
 use lib.ListN.{length, drop, length-take, length-drop}
 use borrow.Author.Tests.{eqb-true, le-leb, lt-ltb, ltb-true, leb-false, not-false}
-use Rattle.fields.specs.Choice.{if◌then◌else◌}
+use Rattle.fields.specs.Choice.{when◌then◌else◌}
 use Rattle.fields.proofs.Choices.{of_both, of_either}
 use Rattle.fields.proofs.LaidBytes.{laid_length}
 use Rattle.packet.specs.Header.{size}
@@ -41,12 +41,12 @@ pub record Keeps (left : Outcome) : Type 0 where
 -- ---- sound states
 
 pub idle_sound : (form : Form) (memory : Memory) → sound_memory form memory ≡ true → sound (idle form memory) ≡ true
-unfolding sound sound_counts if◌then◌else◌
+unfolding sound sound_counts when◌then◌else◌
 idle_sound form memory h = simp h
 
 pub opened_sound : (form : Form) (memory : Memory) (held wanted : ℕ) → sound_memory form memory ≡ true
     → least_held form ≤ held → held < wanted → wanted ≤ buffer_length → sound (opened form memory held wanted) ≡ true
-unfolding sound sound_counts if◌then◌else◌
+unfolding sound sound_counts when◌then◌else◌
 opened_sound form memory held wanted h least below fits = simp (h, le-leb _ _ least, lt-ltb _ _ below, le-leb _ _ fits)
 
 -- "A fresh state is idle, sound"

@@ -6,7 +6,7 @@ use mathlib.Core.List.{List}
 use native.Mathlib.Omega.{arith}
 use lib.ListN.{length, take, drop, length-drop}
 use borrow.Author.Tests.{eqb-false, leb-true, not-false}
-use Rattle.fields.specs.Choice.{if◌then◌else◌, ◌is◌}
+use Rattle.fields.specs.Choice.{when◌then◌else◌, ◌is◌}
 use Rattle.fields.proofs.Choices.{of_both, of_either}
 use Rattle.psi.specs.Header.{wanted}
 use Rattle.memory.specs.declared.Form.{Form}
@@ -69,12 +69,12 @@ unchanged n form memory section not2 not9 not10 =
     sym (memory_stays n form memory section (eqb-false n 2 not2) (eqb-false n 9 not9) (eqb-false n 10 not10))
 
 forgotten_by_9 : (form : Form) (memory : Memory) (section : List ℕ) → no_memory ≡ after_answer 9 form memory section
-unfolding after_answer if◌then◌else◌
+unfolding after_answer when◌then◌else◌
 forgotten_by_9 form memory section = refl
 
 remembered_by_2 : (form : Form) (memory : Memory) (section : List ℕ) → on_delivery form memory section
     ≡ after_answer 2 form memory section
-unfolding after_answer if◌then◌else◌
+unfolding after_answer when◌then◌else◌
 remembered_by_2 form memory section = refl
 
 -- a verdict that is not 2 is 16 or 17
@@ -87,14 +87,14 @@ refused_verdict form memory whole section not2 =
 
 refused_start : (form : Form) (memory : Memory) (bytes section : List ℕ)
     → after_refusal (start_refusal form memory bytes) memory ≡ after_answer (start_refusal form memory bytes) form memory section
-unfolding after_answer if◌then◌else◌
+unfolding after_answer when◌then◌else◌
 refused_start form memory bytes section =
     start_refusal_is_one_of (λ (n : ℕ). after_refusal n memory ≡ after_answer n form memory section) refl refl refl refl refl refl form
     memory bytes
 
 refused_checks : (is_sound : Bool) (packet : List ℕ) (buffer : ℕ) (form : Form) (memory : Memory) (section : List ℕ)
     → memory ≡ after_answer (checked is_sound packet buffer).number form memory section
-unfolding after_answer if◌then◌else◌
+unfolding after_answer when◌then◌else◌
 refused_checks is_sound packet buffer form memory section =
     checked_is_one_of (λ (n : ℕ). memory ≡ after_answer n form memory section) refl refl refl refl refl refl refl refl is_sound packet
     buffer

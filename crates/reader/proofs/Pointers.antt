@@ -6,7 +6,7 @@ use mathlib.Core.List.{List}
 use native.Mathlib.Omega.{arith}
 use lib.ListN.{length, drop, length-drop}
 use borrow.Author.Tests.{eqb-true, eqb-false, ltb-true, leb-false, lt-ltb, not-true, not-false}
-use Rattle.fields.specs.Choice.{if◌then◌else◌, ◌is◌, ◌is_above◌}
+use Rattle.fields.specs.Choice.{when◌then◌else◌, ◌is◌, ◌is_above◌}
 use Rattle.fields.proofs.Choices.{and_holds, test_holds, first_chosen, second_chosen, either_way}
 use Rattle.packet.specs.Header.{size}
 use Rattle.reader.specs.Pointer.{unit_start, pointer, rest, points_beyond, pointer_of}
@@ -45,7 +45,7 @@ module _ (packet : List ℕ) (start : ℕ) where
 -- a pointer that is not beyond the rest, and not 0, points into it
 pub points_within : (payload : List ℕ) → points_beyond payload ≡ false → 0 < pointer payload
     → pointer payload < length (rest payload)
-unfolding if◌then◌else◌
+unfolding when◌then◌else◌
 points_within payload within above = leb-false _ _ (sym (test_holds (pointer payload is_above 0) _ _ (lt-ltb _ _ above))
     ∙ within)
 

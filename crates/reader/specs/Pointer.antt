@@ -1,6 +1,6 @@
 -- "A payload with unit start begins with a pointer byte"; what follows it is the rest.
 use Rattle.std.specs.Prelude.{ℕ, ◌+◌, Bool, not, List, [], ◌∷◌, length, drop}
-use Rattle.fields.specs.Choice.{if◌then◌else◌, ◌and◌, ◌is◌, ◌is_above◌, ◌is_at_most◌}
+use Rattle.fields.specs.Choice.{when◌then◌else◌, ◌and◌, ◌is◌, ◌is_above◌, ◌is_at_most◌}
 use Rattle.fields.specs.SyntaxTable.{Table, field}
 use Rattle.packet.specs.Syntax.{transport_packet}
 use Rattle.reader.specs.declared.Pointer.{Pointer}
@@ -29,6 +29,6 @@ target packet start = start + 1 + pointer (drop start packet)
 -- what the code finds of all this in the packet whose payload starts there
 unfoldable pub pointer_of : List ℕ → ℕ → Pointer
 pointer_of packet start =
-    if not (unit_start packet) then Pointer.NoUnitStart
-    else if points_beyond (drop start packet) then Pointer.BeyondRest
+    when not (unit_start packet) then Pointer.NoUnitStart
+    else when points_beyond (drop start packet) then Pointer.BeyondRest
     else Pointer.To (pointer (drop start packet))

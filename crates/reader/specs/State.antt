@@ -1,6 +1,6 @@
 -- The reader's state: document 01, "Gathering: two steps for each packet".
 use Rattle.std.specs.Prelude.{ℕ, Bool, true, false}
-use Rattle.fields.specs.Choice.{if◌then◌else◌, ◌and◌, ◌is◌, ◌is_below◌, ◌is_at_most◌}
+use Rattle.fields.specs.Choice.{when◌then◌else◌, ◌and◌, ◌is◌, ◌is_below◌, ◌is_at_most◌}
 use Rattle.memory.specs.declared.Form.{Form}
 use Rattle.memory.specs.declared.Memory.{Memory}
 use Rattle.memory.specs.Memory.{no_memory, sound_memory}
@@ -13,7 +13,7 @@ use Rattle.reader.specs.declared.Gathering.{Gathering}
 -- at most 1,024"
 unfoldable pub sound_counts : Gathering → Bool
 sound_counts gathering =
-    if gathering.is_open then
+    when gathering.is_open then
     least_held gathering.form is_at_most gathering.held and gathering.held is_below gathering.wanted
     and gathering.wanted is_at_most buffer_length
     else (gathering.held is 0 and gathering.wanted is 0)

@@ -1,6 +1,6 @@
 -- The tail step.
 use Rattle.std.specs.Prelude.{ℕ, ◌+◌, ◌-◌, not, List, length, take, drop}
-use Rattle.fields.specs.Choice.{if◌then◌else◌, ◌is◌, ◌is_below◌}
+use Rattle.fields.specs.Choice.{when◌then◌else◌, ◌is◌, ◌is_below◌}
 use Rattle.fields.specs.Laid.{laid}
 use Rattle.answers.specs.Numbers.{nothing_for_this_step, bytes_kept, pointer_beyond_rest, no_section_open}
 use Rattle.reader.specs.declared.Reader.{Reader}
@@ -33,17 +33,17 @@ whole_in reader buffer = whole reader.form reader.memory (in_buffer reader.wante
 -- "Continuing when idle: 15. When open: copy ..; if some are still wanted, 1; else the section is whole"
 unfoldable pub continued : Reader → List ℕ → List ℕ → Outcome
 continued reader bytes buffer =
-    if not reader.is_open then outcome (answered no_section_open (idle reader.form reader.memory)) buffer
-    else if held_with reader bytes is_below reader.wanted then outcome (still_open reader bytes) (filled reader bytes buffer)
+    when not reader.is_open then outcome (answered no_section_open (idle reader.form reader.memory)) buffer
+    else when held_with reader bytes is_below reader.wanted then outcome (still_open reader bytes) (filled reader bytes buffer)
     else outcome (whole_in reader (filled reader bytes buffer)) (filled reader bytes buffer)
 
 -- "No unit start: the whole payload continues. Unit start and pointer 0: answer 0. Pointer above 0 and not below the rest's length: 9. Otherwise the first
 -- pointer bytes of the rest continue"
 unfoldable pub tail_from : Reader → List ℕ → List ℕ → List ℕ → Outcome
 tail_from reader packet payload buffer =
-    if not (unit_start packet) then continued reader payload buffer
-    else if pointer payload is 0 then outcome (answered nothing_for_this_step reader) buffer
-    else if points_beyond payload then outcome (forgotten pointer_beyond_rest reader) buffer
+    when not (unit_start packet) then continued reader payload buffer
+    else when pointer payload is 0 then outcome (answered nothing_for_this_step reader) buffer
+    else when points_beyond payload then outcome (forgotten pointer_beyond_rest reader) buffer
     else continued reader (take (pointer payload) (rest payload)) buffer
 
 unfoldable pub tail_of : Reader → List ℕ → List ℕ → Outcome

@@ -1,6 +1,6 @@
 -- A whole section.
 use Rattle.std.specs.Prelude.{ℕ, List}
-use Rattle.fields.specs.Choice.{if◌then◌else◌, ◌is◌}
+use Rattle.fields.specs.Choice.{when◌then◌else◌, ◌is◌}
 use Rattle.answers.specs.Numbers.{delivered}
 use Rattle.memory.specs.declared.Form.{Form}
 use Rattle.memory.specs.declared.Memory.{Memory}
@@ -14,6 +14,6 @@ use Rattle.reader.specs.Outcome.{answered}
 -- "The reader is idle after each"; a section that is delivered has its place, and "ONCE remembers on delivery only, never on a start or on 16 or 17"
 unfoldable pub whole : Form → Memory → Place → List ℕ → Step
 whole form memory place section =
-    if verdict form section is delivered then
+    when verdict form section is delivered then
     record { reader = idle form (on_delivery form memory section); place = place; answer = delivered }
     else answered (verdict form section) (idle form memory)

@@ -5,7 +5,7 @@ use mathlib.Core.Bool.{true, false, true≢false}
 use mathlib.Core.List.{List, [], ◌∷◌, ◌++◌}
 use borrow.Author.Tests.{eqb-false}
 use lib.ListN.{take, replicate}
-use Rattle.fields.specs.Choice.{if◌then◌else◌}
+use Rattle.fields.specs.Choice.{when◌then◌else◌}
 use Rattle.fields.specs.BitString.{low_bits, bit_string, number, number_at}
 use Rattle.fields.specs.SyntaxTable.{offset, width, value_of}
 use Rattle.fields.specs.Laid.{laid}
@@ -54,38 +54,38 @@ answer_of left = left.step.answer
 -- ---- what is due
 
 due_3 : answer_of (tail_of (fresh Form.Compact) [] []) ≡ 3
-unfolding answer_of if◌then◌else◌ of_a_packet checked from_a_place from_the_payload tail_of
+unfolding answer_of when◌then◌else◌ of_a_packet checked from_a_place from_the_payload tail_of
 due_3 = refl
 
 due_0 : answer_of (tail_of (fresh Form.Compact) pointing0 buffer) ≡ 0
 unfolding
-    answer_of pointing0 buffer if◌then◌else◌ low_bits bit_string number number_at offset width value_of
+    answer_of pointing0 buffer when◌then◌else◌ low_bits bit_string number number_at offset width value_of
     of_a_packet starting_at payload_behind any_marked agrees sound_memory sound_counts sound checked from_a_place from_the_payload tail_from tail_of
 due_0 = refl
 
 due_1 : answer_of (tail_of wants_many continuing buffer) ≡ 1
 unfolding
-    answer_of wants_many continuing buffer if◌then◌else◌ low_bits bit_string number number_at offset width value_of
+    answer_of wants_many continuing buffer when◌then◌else◌ low_bits bit_string number number_at offset width value_of
     of_a_packet starting_at payload_behind any_marked agrees sound_memory sound_counts sound checked from_a_place from_the_payload continued tail_from tail_of
 due_1 = refl
 
 due_open : (head_of (fresh Form.Compact) starting buffer).step.reader.is_open ≡ true
 unfolding
-    starting buffer if◌then◌else◌ low_bits bit_string number number_at offset width value_of
+    starting buffer when◌then◌else◌ low_bits bit_string number number_at offset width value_of
     of_a_packet starting_at payload_behind any_marked agrees sound_memory sound_counts sound checked from_a_place from_the_payload
     repeats start_refusal begun started head_from head_of
 due_open = refl
 
 due_finished : take 4 (tail_of wants_one starting buffer).buffer ≡ 0xaa ∷ 0xaa ∷ 0xaa ∷ 0xbb ∷ []
 unfolding
-    starting wants_one buffer if◌then◌else◌ low_bits bit_string number number_at offset width value_of laid
+    starting wants_one buffer when◌then◌else◌ low_bits bit_string number number_at offset width value_of laid
     of_a_packet starting_at payload_behind any_marked agrees sound_memory sound_counts sound checked from_a_place from_the_payload
     verdict on_delivery whole continued tail_from tail_of
 due_finished = refl
 
 overwritten : take 4 (both_in_one_call wants_one starting buffer).buffer ≡ 0x00 ∷ 0x30 ∷ 0xff ∷ 0x00 ∷ []
 unfolding
-    starting wants_one buffer if◌then◌else◌ low_bits bit_string number number_at offset width value_of laid
+    starting wants_one buffer when◌then◌else◌ low_bits bit_string number number_at offset width value_of laid
     of_a_packet starting_at payload_behind any_marked agrees sound_memory sound_counts sound checked from_a_place from_the_payload
     verdict on_delivery whole continued tail_from tail_of repeats start_refusal begun started head_from head_of
 overwritten = refl
@@ -110,7 +110,7 @@ none_leaves_the_state_alone admitted =
 
 -- "fails the tail rule on the second"
 pub none_answers_15_where_open : Admitted (answers15_where_open tail_of) tail_of → ⊥
-unfolding answer_of wants_many if◌then◌else◌
+unfolding answer_of wants_many when◌then◌else◌
 none_answers_15_where_open admitted = eqb-false 15 1 refl (ap answer_of (admitted wants_many continuing buffer) ∙ due_1)
 
 -- the section that was just finished is overwritten

@@ -1,6 +1,6 @@
 -- The stubs of document 01, "How tight the contracts must be", and the slip of "Working both steps in one call", as steps.
 use Rattle.std.specs.Prelude.{ℕ, ◌≡◌, List}
-use Rattle.fields.specs.Choice.{if◌then◌else◌}
+use Rattle.fields.specs.Choice.{when◌then◌else◌}
 use Rattle.reader.specs.declared.Reader.{Reader}
 use Rattle.reader.specs.Outcome.{Outcome, outcome, answered}
 use Rattle.reader.specs.Tail.{tail_of}
@@ -27,7 +27,7 @@ leaves_the_state_alone step reader packet buffer =
 -- "One that works the first packet and then answers 15", as far as the state tells them apart: what a first packet opened
 abbrev pub answers15_where_open : StepOf → StepOf
 answers15_where_open step reader packet buffer =
-    if reader.is_open then outcome (answered 15 reader) buffer else step reader packet buffer
+    when reader.is_open then outcome (answered 15 reader) buffer else step reader packet buffer
 
 -- "Working both steps in one call, so that the new section's bytes overwrite the one just finished"
 abbrev pub both_in_one_call : StepOf

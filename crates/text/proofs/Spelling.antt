@@ -8,7 +8,7 @@ use native.Mathlib.Numerals.{unary_clauses}
 use native.Mathlib.Omega.{arith}
 use lib.Dec.{ltb}
 use borrow.Author.Tests.{lt-ltb, le-ltb, ltb-false}
-use Rattle.fields.specs.Choice.{if◌then◌else◌}
+use Rattle.fields.specs.Choice.{when◌then◌else◌}
 use Rattle.fields.proofs.Choices.{test_holds, test_fails}
 use Rattle.io.specs.Digits.{hex_digit_ascii, IsDigitCount}
 use Rattle.io.specs.Digits.{last_digits as last_digits}
@@ -16,8 +16,8 @@ use Rattle.text.specs.Digits.{zero_character, letter_a, character, digits_within
 
 -- each digit has the same character
 below_ten_or_not : (digit : ℕ) (below : Bool) → ltb digit 10 ≡ below
-    → cond below (48 + digit) (87 + digit) ≡ (if below then zero_character + digit else letter_a + (digit - 10))
-unfolding if◌then◌else◌
+    → cond below (48 + digit) (87 + digit) ≡ (when below then zero_character + digit else letter_a + (digit - 10))
+unfolding when◌then◌else◌
 below_ten_or_not digit true e = refl
 below_ten_or_not digit false e = omega (arith, ltb-false digit 10 e)
 

@@ -1,6 +1,6 @@
 -- A page that text is put on.
 use Rattle.std.specs.Prelude.{ℕ, ◌+◌, ◌<◌, ◌≤◌, List, [], ◌∷◌, ◌++◌, length, set, take}
-use Rattle.fields.specs.Choice.{if◌then◌else◌, ◌is_below◌}
+use Rattle.fields.specs.Choice.{when◌then◌else◌, ◌is_below◌}
 
 -- how many bytes are text, from the front on, and all the bytes of the page
 pub record Page : Type 0 where
@@ -21,8 +21,8 @@ Sound page = (0 < length page.bytes) × (page.end ≤ length page.bytes)
 -- a byte more: behind the text where there is room; a full page is written, and begun anew with it; a page of no bytes takes none
 unfoldable pub with_byte : Page → ℕ → Page
 with_byte page byte =
-    if page.end is_below length page.bytes then paged (page.end + 1) (set page.bytes page.end byte)
-    else if 0 is_below length page.bytes then paged 1 (set page.bytes 0 byte)
+    when page.end is_below length page.bytes then paged (page.end + 1) (set page.bytes page.end byte)
+    else when 0 is_below length page.bytes then paged 1 (set page.bytes 0 byte)
     else paged 0 page.bytes
 
 -- text more, byte after byte
@@ -32,7 +32,7 @@ with_text page (byte ∷ text) = with_text (with_byte page byte) text
 
 -- what is written on the way: each time a full page
 abbrev pub written_for : Page → List ℕ
-written_for page = if page.end is_below length page.bytes then [] else page.bytes
+written_for page = when page.end is_below length page.bytes then [] else page.bytes
 
 unfoldable pub written : Page → List ℕ → List ℕ
 written page [] = []

@@ -4,7 +4,7 @@ use mathlib.Core.Path.{◌≡◌, refl, ap}
 use mathlib.Core.List.{List, ◌∷◌}
 use borrow.Author.Tests.{ne_eqb}
 use lib.ListN.{length, drop}
-use Rattle.fields.specs.Choice.{if◌then◌else◌, ◌is◌, ◌is_above◌}
+use Rattle.fields.specs.Choice.{when◌then◌else◌, ◌is◌, ◌is_above◌}
 use Rattle.fields.proofs.Choices.{by_test}
 use Rattle.walks.specs.Walk.{Kind, none_fits_at, found_at, walked}
 use Rattle.walks.specs.WalkBefore.{no_entry_fits, found_before}
@@ -14,9 +14,9 @@ module _ {Entry : Type 0} (kind : Kind Entry) (body : List ℕ) where
   -- a call answers what it answered, save where that was 24
   pub only_24_changed : (position : ℕ)
       → found_at kind body position
-      ≡ (if (found_before kind body position).number is no_entry_fits then none_fits_at kind position (kind.why_not (drop position body))
+      ≡ (when (found_before kind body position).number is no_entry_fits then none_fits_at kind position (kind.why_not (drop position body))
       else found_before kind body position)
-  unfolding found_at found_before if◌then◌else◌
+  unfolding found_at found_before when◌then◌else◌
   only_24_changed position =
       by_test (position is_above length body)
       (λ above. rw above refl)
@@ -32,7 +32,7 @@ module _ {Entry : Type 0} (kind : Kind Entry) (body : List ℕ) where
   pub same_entries : Fitting kind → (calls position : ℕ)
       → ((walked (found_at kind body) calls position).entries ≡ (walked (found_before kind body) calls position).entries)
       × ((walked (found_at kind body) calls position).calls ≡ (walked (found_before kind body) calls position).calls)
-  unfolding walked found_at found_before if◌then◌else◌
+  unfolding walked found_at found_before when◌then◌else◌
   same_entries fitting zero position = (refl, refl)
   same_entries fitting (suc calls) position =
       by_test (position is_above length body)

@@ -7,7 +7,7 @@ use native.Mathlib.Omega.{arith}
 use borrow.Author.Tests.{lt-ltb, le-ltb, eqb-true, eqb-false, eq-eqb, ne_eqb}
 use lib.ListN.{length, drop, length-drop}
 use lib.Seq.{drop-drop}
-use Rattle.fields.specs.Choice.{if◌then◌else◌, ◌is◌}
+use Rattle.fields.specs.Choice.{when◌then◌else◌, ◌is◌}
 use Rattle.fields.proofs.Choices.{test_holds, test_fails, by_test}
 use Rattle.answers.specs.Numbers.{walk_at_end, position_above_length}
 use Rattle.answers.specs.Says.{Says, refused}
@@ -31,7 +31,7 @@ module _ {Entry : Type 0} (kind : Kind Entry) (body : List ℕ) (position : ℕ)
 
   found_before_end : position < length body
       → found_at kind body position
-      ≡ (if not (kind.fits (drop position body)) then none_fits_at kind position (kind.why_not (drop position body))
+      ≡ (when not (kind.fits (drop position body)) then none_fits_at kind position (kind.why_not (drop position body))
       else found (kind.entry position (drop position body)) (position + kind.size (drop position body)))
   unfolding found_at
   found_before_end l =
@@ -63,7 +63,7 @@ module _ {Entry : Type 0} (kind : Kind Entry) (entries : List Entry) (left : Lis
 module _ {Entry : Type 0} (ask : ℕ → Says (Found Entry)) (calls position : ℕ) where
   walk_goes_on : (entry : Entry) (next : ℕ) → ask position ≡ found entry next
       → walked ask (suc calls) position ≡ got entry (walked ask calls next)
-  unfolding walked if◌then◌else◌
+  unfolding walked when◌then◌else◌
   walk_goes_on entry next e = rw e
 
   walk_ends : (number : ℕ) (told : Found Entry) → (number ≡ 0 → ⊥) → ask position ≡ refused number told
@@ -82,7 +82,7 @@ module _ {Entry : Type 0} (kind : Kind Entry) (fitting : Fitting kind) where
   -- where no entry fits it has none and leaves all
   loop_stops : (turns position : ℕ) (bytes : List ℕ) → kind.fits bytes ≡ false
       → due turns position bytes ≡ exactly kind [] bytes position
-  unfolding due entries_in left_behind left_from if◌then◌else◌
+  unfolding due entries_in left_behind left_from when◌then◌else◌
   loop_stops zero position bytes f = refl
   loop_stops (suc turns) position bytes f = rw f refl
 
@@ -90,7 +90,7 @@ module _ {Entry : Type 0} (kind : Kind Entry) (fitting : Fitting kind) where
   loop_turns : (turns position : ℕ) (bytes : List ℕ) → kind.fits bytes ≡ true
       → due (suc turns) position bytes
       ≡ got (kind.entry position bytes) (due turns (position + kind.size bytes) (drop (kind.size bytes) bytes))
-  unfolding due entries_in left_behind left_from if◌then◌else◌
+  unfolding due entries_in left_behind left_from when◌then◌else◌
   loop_turns turns position bytes f = rw f refl
 
   -- no entry fits into nothing
@@ -197,7 +197,7 @@ module _ {Entry : Type 0} (kind : Kind Entry) (fitting : Fitting kind) where
     pub left_from_there : (turns position : ℕ) → position ≤ length body
         → (left_behind kind turns (drop position body) ≡ drop (left_from kind turns position (drop position body)) body)
         × (left_from kind turns position (drop position body) ≤ length body)
-    unfolding left_behind left_from if◌then◌else◌
+    unfolding left_behind left_from when◌then◌else◌
     left_from_there zero position h = (refl, h)
     left_from_there (suc turns) position h =
         by_test (kind.fits (drop position body))

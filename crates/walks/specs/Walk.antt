@@ -1,6 +1,6 @@
 -- Walks over a body, whatever its entries are: document 01, "Walks take a body and a position", and the loops of the standard.
 use Rattle.std.specs.Prelude.{ℕ, zero, suc, ◌+◌, Bool, not, List, [], ◌∷◌, length, drop}
-use Rattle.fields.specs.Choice.{if◌then◌else◌, ◌is◌, ◌is_above◌}
+use Rattle.fields.specs.Choice.{when◌then◌else◌, ◌is◌, ◌is_above◌}
 use Rattle.answers.specs.Numbers.{walk_at_end, position_above_length}
 use Rattle.answers.specs.Says.{Says, given, refused}
 
@@ -35,9 +35,9 @@ none_fits_at kind offset why = refused why (record { entry = kind.none; next = 0
 -- "26 if above its length, then 23 if nothing is left"; then why no entry fits here, or the entry that stands there
 unfoldable pub found_at : {Entry : Type 0} → Kind Entry → List ℕ → ℕ → Says (Found Entry)
 found_at kind body position =
-    if position is_above length body then refused position_above_length (nothing kind)
-    else if position is length body then refused walk_at_end (nothing kind)
-    else if not (kind.fits (drop position body)) then none_fits_at kind position (kind.why_not (drop position body))
+    when position is_above length body then refused position_above_length (nothing kind)
+    else when position is length body then refused walk_at_end (nothing kind)
+    else when not (kind.fits (drop position body)) then none_fits_at kind position (kind.why_not (drop position body))
     else found (kind.entry position (drop position body)) (position + kind.size (drop position body))
 
 -- ---- a loop of the standard, `for (i = 0; i < N; i++) { .. }`
@@ -46,7 +46,7 @@ found_at kind body position =
 unfoldable pub entries_in : {Entry : Type 0} → Kind Entry → ℕ → ℕ → List ℕ → List Entry
 entries_in kind zero position bytes = []
 entries_in kind (suc turns) position bytes =
-    if kind.fits bytes then
+    when kind.fits bytes then
     kind.entry position bytes ∷ entries_in kind turns (position + kind.size bytes) (drop (kind.size bytes) bytes)
     else []
 
@@ -54,14 +54,14 @@ entries_in kind (suc turns) position bytes =
 unfoldable pub left_behind : {Entry : Type 0} → Kind Entry → ℕ → List ℕ → List ℕ
 left_behind kind zero bytes = bytes
 left_behind kind (suc turns) bytes =
-    if kind.fits bytes then left_behind kind turns (drop (kind.size bytes) bytes)
+    when kind.fits bytes then left_behind kind turns (drop (kind.size bytes) bytes)
     else bytes
 
 -- where these begin, where the loop begins at a position: behind the last entry
 unfoldable pub left_from : {Entry : Type 0} → Kind Entry → ℕ → ℕ → List ℕ → ℕ
 left_from kind zero position bytes = position
 left_from kind (suc turns) position bytes =
-    if kind.fits bytes then left_from kind turns (position + kind.size bytes) (drop (kind.size bytes) bytes)
+    when kind.fits bytes then left_from kind turns (position + kind.size bytes) (drop (kind.size bytes) bytes)
     else position
 
 -- ---- a host's walk
@@ -87,7 +87,7 @@ unfoldable pub walked : {Entry : Type 0} → (ℕ → Says (Found Entry)) → �
 walked ask zero position = record { entries = []; ended = 0; offset = 0; calls = 0 }
 walked ask (suc calls) position =
     let answer = ask position in
-    if answer.number is 0 then got answer.values.entry (walked ask calls answer.values.next)
+    when answer.number is 0 then got answer.values.entry (walked ask calls answer.values.next)
     else ended_by answer.number answer.values.offset
 
 -- a host that got a loop's entries in order and then 23, or, where the loop leaves bytes behind, why no entry fits into them and where they
@@ -96,7 +96,7 @@ abbrev pub exactly : {Entry : Type 0} → Kind Entry → List Entry → List ℕ
 exactly kind entries left from =
     record {
       entries = entries;
-      ended = if length left is 0 then walk_at_end else kind.why_not left;
-      offset = if length left is 0 then 0 else from;
+      ended = when length left is 0 then walk_at_end else kind.why_not left;
+      offset = when length left is 0 then 0 else from;
       calls = suc (length entries);
     }

@@ -6,7 +6,7 @@ use mathlib.Core.List.{List}
 use native.Mathlib.Nat.{div-one}
 use native.Mathlib.Omega.{arith}
 use lib.ListN.{length, take, drop, length-take, length-drop, take-append-drop}
-use Rattle.fields.specs.Choice.{if◌then◌else◌}
+use Rattle.fields.specs.Choice.{when◌then◌else◌}
 use Rattle.fields.specs.BitString.{number_at}
 use Rattle.fields.specs.SyntaxTable.{size, behind, width, value_of}
 use Rattle.fields.specs.Word.{word_of}
@@ -30,7 +30,7 @@ flag-of-word packet n word some within is =
     ∙ number_at_front bytes (drop n behind_start) 0 8 (omega arith) ∙ sym (word_there bytes 0 1 (omega arith) (omega arith)))
 
 pub returns : goal.returns
-unfolding flags_of if◌then◌else◌ size behind width
+unfolding flags_of when◌then◌else◌ size behind width
 returns c =
     let n = c.args.n in
     simp (

@@ -6,15 +6,15 @@ use mathlib.Core.Bool.{Bool, true, false}
 use native.Mathlib.Nat.{mul-one, mul-zero}
 use native.Mathlib.Omega.{arith}
 use mir.Val.{bool_byte}
-use Rattle.fields.specs.Choice.{if◌then◌else◌}
+use Rattle.fields.specs.Choice.{when◌then◌else◌}
 use Rattle.adaptation_parts.proofs.behind.Goals as goal
 
 at-most-once : (flag : Bool) → bool_byte flag ≤ 1
 at-most-once true = omega arith
 at-most-once false = omega arith
 
-counted : (n : ℕ) (flag : Bool) → n * bool_byte flag ≡ (if flag then n else 0)
-unfolding if◌then◌else◌
+counted : (n : ℕ) (flag : Bool) → n * bool_byte flag ≡ (when flag then n else 0)
+unfolding when◌then◌else◌
 counted n true = mul-one n
 counted n false = mul-zero n
 

@@ -4,7 +4,7 @@ use mathlib.Core.Path.{refl, sym}
 use native.Mathlib.Nat.{div-one}
 use native.Mathlib.Omega.{arith}
 use lib.ListN.{drop, length-drop}
-use Rattle.fields.specs.Choice.{if◌then◌else◌}
+use Rattle.fields.specs.Choice.{when◌then◌else◌}
 use Rattle.fields.specs.SyntaxTable.{size, behind, width}
 use Rattle.fields.proofs.SyntaxTables.{field_of_word}
 use Rattle.adaptation_parts.specs.Syntax.{program_clock_reference}
@@ -20,7 +20,7 @@ unfolding size
 returns-then-field-at c = sym (field_ends_before_lem _ _ _ _ _ c.if-not-flag.false (simp length-drop (omega arith)))
 
 pub returns : goal.returns
-unfolding if◌then◌else◌ size behind width
+unfolding when◌then◌else◌ size behind width
 returns c =
     let a = c.args in
     let bytes = drop a.at a.field.now in

@@ -3,7 +3,7 @@ use Prim.Native.Nat.{ℕ, ◌+◌}
 use mathlib.Core.Path.{sym, ap, ◌∙◌}
 use native.Mathlib.Omega.{arith}
 use lib.ListN.{length-drop}
-use Rattle.fields.specs.Choice.{if◌then◌else◌}
+use Rattle.fields.specs.Choice.{when◌then◌else◌}
 use Rattle.fields.specs.SyntaxTable.{size, offset, width, value_of}
 use Rattle.answers.specs.Says.{given}
 use Rattle.adaptation.specs.AdaptationField.{start}
@@ -26,7 +26,7 @@ pub overflow_add-at-3 : goal.overflow_add-at-3
 overflow_add-at-3 c = omega (arith, c.shared_slice_known-1.given c.args.at)
 
 pub returns-then-field-at-2 : goal.returns-then-field-at-2
-unfolding private_data_at if◌then◌else◌ offset width value_of
+unfolding private_data_at when◌then◌else◌ offset width value_of
 returns-then-field-at-2 c =
     let at = c.args.at in
     let bytes = c.args.field.now in
@@ -36,7 +36,7 @@ returns-then-field-at-2 c =
     (simp (size_of_private_data, length-drop, ← byte) (omega arith)))
 
 pub returns : goal.returns
-unfolding private_data_at if◌then◌else◌ size offset width value_of
+unfolding private_data_at when◌then◌else◌ size offset width value_of
 returns c =
     let at = c.args.at in
     let bytes = c.args.field.now in

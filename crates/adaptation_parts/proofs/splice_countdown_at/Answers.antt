@@ -2,7 +2,7 @@
 use mathlib.Core.Path.{sym, ap, ◌∙◌}
 use native.Mathlib.Omega.{arith}
 use lib.ListN.{length-drop}
-use Rattle.fields.specs.Choice.{if◌then◌else◌}
+use Rattle.fields.specs.Choice.{when◌then◌else◌}
 use Rattle.fields.specs.SyntaxTable.{size, offset, width, value_of}
 use Rattle.answers.specs.Says.{given}
 use Rattle.adaptation_parts.proofs.Parts.{flag_is_clear, field_ends_before_lem, part_is_there, byte_of_its_row}
@@ -16,7 +16,7 @@ unfolding size
 returns-then-field-at c = sym (field_ends_before_lem _ _ _ _ _ c.if-not-flag.false (simp length-drop (omega arith)))
 
 pub returns : goal.returns
-unfolding if◌then◌else◌ size offset width value_of
+unfolding when◌then◌else◌ size offset width value_of
 returns c =
     let at = c.args.at in
     ap given (byte_of_its_row _ at (omega arith) (omega (arith, c.shared_slice_known-1.given at)))

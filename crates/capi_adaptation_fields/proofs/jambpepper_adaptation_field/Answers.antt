@@ -1,6 +1,6 @@
 -- `capi_adaptation_fields::jambpepper_adaptation_field` meets its contract: each case of the answer is what is said of it. Assumes nothing.
 use mathlib.Core.Path.{sym, ap, ◌∙◌}
-use Rattle.fields.specs.Choice.{if◌then◌else◌}
+use Rattle.fields.specs.Choice.{when◌then◌else◌}
 use Rattle.capi_numbers.specs.Numbers.{flag}
 use Rattle.capi_numbers.proofs.Flags.{byte_is_flag}
 use Rattle.adaptation.specs.AdaptationField.{adaptation_field_says}
@@ -10,5 +10,5 @@ pub returns-in-Is : goal.returns-in-Is
 returns-in-Is c = simp (byte_is_flag, sym (sym (ap adaptation_field_says c.in-Is.is) ∙ c.of.ensures))
 
 pub returns-in-Refused : goal.returns-in-Refused
-unfolding flag if◌then◌else◌
+unfolding flag when◌then◌else◌
 returns-in-Refused c = simp (c.number.ensures, sym (sym (ap adaptation_field_says c.in-Refused.is) ∙ c.of.ensures))

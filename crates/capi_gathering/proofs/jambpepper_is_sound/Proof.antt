@@ -1,7 +1,7 @@
 -- `capi_gathering::jambpepper_is_sound` meets its contract: a state is sound if it names a reader that is. Assumes nothing.
 use mathlib.Core.Path.{sym, ap, ◌∙◌}
 use borrow.Author.Tests.{leb-true}
-use Rattle.fields.specs.Choice.{if◌then◌else◌}
+use Rattle.fields.specs.Choice.{when◌then◌else◌}
 use Rattle.fields.proofs.Choices.{test_holds}
 use Rattle.capi_numbers.specs.Numbers.{flag}
 use Rattle.capi_numbers.proofs.Flags.{byte_is_flag}
@@ -38,7 +38,7 @@ returns c =
     (sym (test_holds _ _ _ named)))
 
 returns-2 : tie.Need-returns-2
-unfolding sound_for_c flag if◌then◌else◌
+unfolding sound_for_c flag when◌then◌else◌
 returns-2 c = simp (← c.before.names-reader.ensures, c.if1.false)
 
 pub jambpepper-is-sound-spec : {M : Type 1} → statement M

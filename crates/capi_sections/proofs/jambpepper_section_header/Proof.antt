@@ -1,6 +1,6 @@
 -- `capi_sections::jambpepper_section_header` meets its contract: each case of the answer is what is said of it. Assumes nothing.
 use mathlib.Core.Path.{sym, ap, ◌∙◌}
-use Rattle.fields.specs.Choice.{if◌then◌else◌}
+use Rattle.fields.specs.Choice.{when◌then◌else◌}
 use Rattle.capi_numbers.specs.Numbers.{flag}
 use Rattle.capi_numbers.proofs.Flags.{byte_is_flag}
 use Rattle.psi.specs.Header.{header_says}
@@ -30,7 +30,7 @@ returns : tie.Need-returns
 returns c = simp (byte_is_flag, sym (sym (ap header_says c.before.before.before.header2.given.1) ∙ c.before.before.before.before.before.header.ensures))
 
 returns-2 : tie.Need-returns-2
-unfolding flag if◌then◌else◌
+unfolding flag when◌then◌else◌
 returns-2 c = simp (c.number.ensures, sym (sym (ap header_says c.before.before.refusal.given.1) ∙ c.before.before.before.before.header.ensures))
 
 pub jambpepper-section-header-spec : {M : Type 1} → statement M

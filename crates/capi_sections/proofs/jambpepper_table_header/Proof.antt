@@ -1,6 +1,6 @@
 -- `capi_sections::jambpepper_table_header` meets its contract: each case of the answer is what is said of it. Assumes nothing.
 use mathlib.Core.Path.{sym, ap, ◌∙◌}
-use Rattle.fields.specs.Choice.{if◌then◌else◌}
+use Rattle.fields.specs.Choice.{when◌then◌else◌}
 use Rattle.capi_numbers.specs.Numbers.{flag}
 use Rattle.capi_numbers.proofs.Flags.{byte_is_flag}
 use Rattle.psi.specs.Header.{table_header_says}
@@ -27,7 +27,7 @@ returns : tie.Need-returns
 returns c = simp (byte_is_flag, sym (sym (ap table_header_says c.before.before.header.given.1) ∙ c.before.before.before.before.table-header.ensures))
 
 returns-2 : tie.Need-returns-2
-unfolding flag if◌then◌else◌
+unfolding flag when◌then◌else◌
 returns-2 c = simp (c.number.ensures, sym (sym (ap table_header_says c.before.before.refusal.given.1) ∙ c.before.before.before.before.table-header.ensures))
 
 pub jambpepper-table-header-spec : {M : Type 1} → statement M

@@ -2,7 +2,7 @@
 use mathlib.Core.Path.{sym}
 use lib.Seq.{length-take-le}
 use borrow.Author.Tests.{le-leb, lt-leb}
-use Rattle.fields.specs.Choice.{if◌then◌else◌}
+use Rattle.fields.specs.Choice.{when◌then◌else◌}
 use Rattle.reader.specs.Head.{begun}
 use Rattle.reader.proofs.begun.Goals as goal
 
@@ -10,7 +10,7 @@ pub slice_bounds-whole-end : goal.slice_bounds-whole-end
 slice_bounds-whole-end c = sym (length-take-le _ _ c.if-end-bytes.true)
 
 pub returns-then-end-bytes : goal.returns-then-end-bytes
-unfolding begun if◌then◌else◌
+unfolding begun when◌then◌else◌
 returns-then-end-bytes c memory =
     simp (
       ← c.wanted-size.ensures,
@@ -19,7 +19,7 @@ returns-then-end-bytes c memory =
     )
 
 pub returns : goal.returns
-unfolding begun if◌then◌else◌
+unfolding begun when◌then◌else◌
 returns c memory =
     simp (
       ← c.wanted-size.ensures,

@@ -1,7 +1,7 @@
 -- `reader::started` meets its contract: refused, or begun. Assumes nothing.
 use mathlib.Core.Path.{sym, ◌∙◌}
 use borrow.Author.Tests.{eq-eqb, ne_eqb}
-use Rattle.fields.specs.Choice.{if◌then◌else◌}
+use Rattle.fields.specs.Choice.{when◌then◌else◌}
 use Rattle.reader.specs.Head.{started}
 use Rattle.gathering_rules.proofs.Starts.{starts}
 use Rattle.reader.proofs.started.Goals as goal
@@ -15,7 +15,7 @@ begun-requires c = (
 )
 
 pub returns-then-refusal-eq0 : goal.returns-then-refusal-eq0
-unfolding started if◌then◌else◌
+unfolding started when◌then◌else◌
 returns-then-refusal-eq0 c =
     simp (
       ← c.start_refusal-refusal.ensures,
@@ -24,7 +24,7 @@ returns-then-refusal-eq0 c =
     (c.begun.ensures _)
 
 pub returns : goal.returns
-unfolding started if◌then◌else◌
+unfolding started when◌then◌else◌
 returns c =
     simp (
       ← c.start_refusal-refusal.ensures,

@@ -6,7 +6,7 @@ use mathlib.Core.List.{List}
 use native.Mathlib.Nat.{div-one}
 use native.Mathlib.Omega.{arith}
 use lib.ListN.{length}
-use Rattle.fields.specs.Choice.{if◌then◌else◌}
+use Rattle.fields.specs.Choice.{when◌then◌else◌}
 use Rattle.fields.specs.SyntaxTable.{size, behind, width}
 use Rattle.fields.specs.Word.{word_of}
 use Rattle.fields.proofs.SyntaxTables.{field_of_word}
@@ -19,7 +19,7 @@ use Rattle.adaptation.proofs.AdaptationField.of.Goals as goal
 
 -- the length byte is the fifth, read as a word
 length-byte-of-word : (packet : List ℕ) (word : ℕ) → 5 ≤ length packet → word ≡ word_of packet 4 1 → word % 256 ≡ length_byte packet
-unfolding size behind width if◌then◌else◌
+unfolding size behind width when◌then◌else◌
 length-byte-of-word packet word there is =
     simp (field_of_word adaptation_field_length packet 4 1 word (omega arith) refl is, div-one)
 

@@ -5,18 +5,18 @@ use native.Mathlib.Omega.{arith}
 use native.Mathlib.Nat.{div-one, add-sub_cancel_left}
 use borrow.Author.Tests.{lt-ltb, le-ltb}
 use lib.ListN.{length}
-use Rattle.fields.specs.Choice.{if◌then◌else◌}
+use Rattle.fields.specs.Choice.{when◌then◌else◌}
 use Rattle.fields.specs.SyntaxTable.{size, behind, width}
 use Rattle.pmt.specs.Start.{section_of, start_of}
 use Rattle.pmt.proofs.Starts.{header_field}
 use Rattle.pmt.proofs.PmtSection.start.Goals as goal
 
 pub returns-then-actual-lt-HEADER_SIZE : goal.returns-then-actual-lt-HEADER_SIZE
-unfolding start_of if◌then◌else◌
+unfolding start_of when◌then◌else◌
 returns-then-actual-lt-HEADER_SIZE c = simp (lt-ltb _ _ c.if-actual-lt-HEADER_SIZE.true)
 
 pub returns-then-actual-needed : goal.returns-then-actual-needed
-unfolding start_of if◌then◌else◌ size behind width
+unfolding start_of when◌then◌else◌ size behind width
 returns-then-actual-needed c =
     let bits = c.word-bits in
     let body = c.args.body.now in
@@ -24,7 +24,7 @@ returns-then-actual-needed c =
     (simp (lt-ltb (length body) (4 + bits.result % 4096) (omega arith)))
 
 pub returns : goal.returns
-unfolding start_of section_of if◌then◌else◌ size behind width
+unfolding start_of section_of when◌then◌else◌ size behind width
 returns c =
     let bits = c.word-bits in
     let body = c.args.body.now in
