@@ -1,7 +1,7 @@
 // The calls that only read. A request names one of them, or several with a comma between two.
 use crate::arguments::{OVER, line_of, next, part};
 use crate::line::Page;
-use crate::{adaptation_fields, crc, line, packets, sections, walks};
+use crate::{adaptation_fields, bodies, crc, line, packets, sections};
 
 // What the calls of a list are asked of: bytes, or a position and bytes.
 #[derive(Drop)]
@@ -98,7 +98,7 @@ pub fn put_all(list: &[u8], position: usize, bytes: &[u8], page: &mut Page, star
 
 fn put_call(call: u64, position: usize, bytes: &[u8], page: &mut Page, end: usize) -> usize {
     if call < First::OF_PACKETS {
-        return walks::put(call, position, bytes, page, end);
+        return bodies::put(call, position, bytes, page, end);
     }
     if call < First::OF_ADAPTATION_FIELDS {
         return packets::put(call - First::OF_PACKETS, bytes, page, end);

@@ -3,6 +3,7 @@
 
 mod adaptation_fields;
 mod arguments;
+mod bodies;
 mod calls;
 mod crc;
 mod gathering;
@@ -11,7 +12,6 @@ mod line;
 mod packets;
 mod requests;
 mod sections;
-mod walks;
 
 ghost use Rattle.std.specs.Prelude.{◌+◌, ◌≤◌, length, IfOk};
 ghost use Rattle.replay.specs.Within.{Within};

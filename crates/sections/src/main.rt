@@ -380,8 +380,7 @@ fn work_more(run: Run, input: &mut impl Read, room: &mut [u8], sums: &Totals) ->
 // Moves so many bytes to the room's start, and reads more behind them.
 fn read_more(input: &mut impl Read, room: &mut [u8], from: usize, left: usize) -> io::Result<usize>
     requires { from + left ≤ length room.old }
-    ensures room { length room.new ≡ length room.old }
-    ensures count { IfOk result (λ count. left + count ≤ length room.new) }
+    ensures { IfOk result (λ count. left + count ≤ length room.new) }
 {
     move_down(room, from, left);
     input.read(&mut room[left..])
