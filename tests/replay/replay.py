@@ -8,8 +8,8 @@ import pathlib
 import subprocess
 
 ROOT = pathlib.Path(__file__).resolve().parents[2]
-PROGRAM = ROOT / "target" / "bin" / "replay"
 STORE = ROOT / "crates" / "replay"
+PROGRAM = STORE / "out" / "replay"
 
 # The parts of the stored sample, in their order, and who makes each.
 PARTS = {
@@ -41,7 +41,7 @@ def written(requests):
 def answered(stdin):
     """The lines that the program answers to bytes."""
     if not PROGRAM.exists():
-        fail(f"{PROGRAM.relative_to(ROOT)} is not there: run `rt check replay`")
+        fail(f"{PROGRAM.relative_to(ROOT)} is not there: `rt run` in crates/replay makes it")
     run = subprocess.run([PROGRAM], input=stdin, stdout=subprocess.PIPE, check=False)
     if run.returncode != 0:
         fail(f"{PROGRAM.relative_to(ROOT)} ended with status {run.returncode}")
