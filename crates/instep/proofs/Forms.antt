@@ -29,7 +29,8 @@ after_kept form reader buffer [] f s l = record { formed = f; sound_state = s; l
 after_kept form reader buffer (packet ∷ history) f s l =
     let t = tail_keeps reader packet buffer s l in
     let h = head_keeps _ packet _ t.sound_state t.lent in
-    after_kept form _ _ history (head_form _ packet _ ∙ tail_form reader packet buffer ∙ f) h.sound_state h.lent
+    let head = (worked reader buffer packet).head in
+    after_kept form head.step.reader head.buffer history (head_form _ packet _ ∙ tail_form reader packet buffer ∙ f) h.sound_state h.lent
 
 pub history_kept : (form : Form) (buffer : List ℕ) (history : List (List ℕ)) → length buffer ≡ buffer_length
     → Kept form (after (fresh form) buffer history)

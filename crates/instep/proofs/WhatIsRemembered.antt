@@ -1,7 +1,7 @@
 -- What ONCE remembers: a section that was refused or damaged leaves it as it was, and what is marked was delivered. Assumes nothing.
-use Prim.Native.Nat.{ℕ, ◌+◌, ◌≤◌}
+use Prim.Native.Nat.{ℕ, ◌≤◌}
 use mathlib.Core.Path.{◌≡◌, refl, sym, ap, ◌∙◌, subst}
-use mathlib.Core.Bool.{true, false, not, true≢false, false≢true}
+use mathlib.Core.Bool.{true, not, true≢false, false≢true}
 use mathlib.Core.List.{List, [], ◌∷◌, ◌++◌, append-nil, append_assoc}
 use native.Mathlib.Omega.{arith}
 use lib.ListN.{length, take, drop}
@@ -195,7 +195,8 @@ memory_as_it_was reader buffer (packet ∷ packets) s l none =
     let tail = tail_of reader packet buffer in
     let t = tail_keeps reader packet buffer s l in
     let h = head_keeps tail.step.reader packet tail.buffer t.sound_state t.lent in
-    memory_as_it_was _ _ packets h.sound_state h.lent none.3.3
+    let head = head_after packet tail in
+    memory_as_it_was head.step.reader head.buffer packets h.sound_state h.lent none.3.3
     ∙ quiet_step _ _ (seen packet (head_after packet tail))
     (head_remembers tail.step.reader packet tail.buffer t.sound_state t.lent) none.3.0 none.3.1 none.3.2
     ∙ quiet_step _ _ (seen packet tail) (tail_remembers reader packet buffer s l) none.0 none.1 none.2
@@ -207,7 +208,9 @@ after_both : (reader : Reader) (buffer : List ℕ) (history bad : List (List ℕ
     ≡ after (after reader buffer history).reader (after reader buffer history).buffer bad
 unfolding after worked
 after_both reader buffer [] bad = refl
-after_both reader buffer (packet ∷ history) bad = after_both _ _ history bad
+after_both reader buffer (packet ∷ history) bad =
+    let head = (worked reader buffer packet).head in
+    after_both head.step.reader head.buffer history bad
 
 -- a packet whose section starts at once: pointer 0, so that its tail leaves the state
 tail_of_pointer_0 : (form : Form) (buffer : List ℕ) → length buffer ≡ buffer_length → (history : List (List ℕ)) (packet : List ℕ)

@@ -1,7 +1,7 @@
 -- What is said of delivered sections excludes a short delivery, and one without a start. Assumes nothing.
 use Prim.Native.Nat.{ℕ, ◌+◌, ◌≤◌}
-use mathlib.Core.Path.{◌≡◌, refl, sym, ap, ◌∙◌, subst}
-use mathlib.Core.Bool.{true, false, true≢false}
+use mathlib.Core.Path.{◌≡◌, refl, sym, ◌∙◌, subst}
+use mathlib.Core.Bool.{false, true≢false}
 use mathlib.Core.List.{List, [], ◌∷◌, ◌++◌}
 use native.Mathlib.Omega.{arith}
 use lib.ListN.{length}
@@ -12,7 +12,7 @@ use Rattle.packet.specs.Header.{of_a_packet}
 use Rattle.packet.specs.Payload.{starting_at, payload_behind, payload_of}
 use Rattle.psi.specs.Header.{section_length}
 use Rattle.memory.specs.declared.Form.{Form}
-use Rattle.instep.specs.Fed.{all_continuing, fed_from, NoneMayStart, LastStart, may_start, ByTail}
+use Rattle.instep.specs.Fed.{all_continuing, fed_from, NoneMayStart, may_start, ByTail}
 use Rattle.instep.specs.WrongReaders.{of_three_bytes, ShortDelivery, DeliveryWithoutStart}
 
 -- ---- a short delivery
