@@ -36,6 +36,7 @@ impl ProgramDescriptor {
 
 impl PatSection {
     // The entry at a position of a body. A host starts at 0 and hands each next position back.
+    #[tactic(auto, using(crate::proofs::Programs::tail_found))]
     pub fn program_at(body: &[u8], position: usize) -> ProgramAnswer
         ensures { program_says result ≡ program_at body.now position }
     {

@@ -3,7 +3,7 @@ use mathlib.Core.Path.{sym}
 use native.Mathlib.Omega.{arith}
 use Rattle.walks.proofs.Walks.{found_above, found_end}
 use Rattle.pat.specs.Programs.{program_kind}
-use Rattle.pat.proofs.Programs.{tail_found, network_found, program_found}
+use Rattle.pat.proofs.Programs.{network_found, program_found}
 use Rattle.pat.proofs.PatSection.program_at.Goals as goal
 
 pub returns-then-body-position : goal.returns-then-body-position
@@ -11,9 +11,6 @@ returns-then-body-position c = sym (found_above program_kind _ _ c.if-body-posit
 
 pub returns-then-position-body : goal.returns-then-position-body
 returns-then-position-body c = sym (found_end program_kind _ _ c.if-position-body.true)
-
-pub returns-then-body-position-lt-SIZE : goal.returns-then-body-position-lt-SIZE
-returns-then-body-position-lt-SIZE c = sym (tail_found c.args.body.now c.args.position (omega arith) (omega arith))
 
 pub returns-then-program_number-eq0 : goal.returns-then-program_number-eq0
 returns-then-program_number-eq0 c =
