@@ -18,15 +18,13 @@ returns-then-buffer-ne-SIZE c =
 pub returns-then-not-is_sound : goal.returns-then-not-is_sound
 unfolding checked
 returns-then-not-is_sound c =
-    let is = sym (ap header_says c.in-Is.is)
-    ∙ c.header.ensures in
+    let is = sym (ap header_says c.in-Is.is) ∙ c.header.ensures in
     sym (told_of_a_packet _ 0 _ _ is ∙ test_fails _ _ _ (ap not (eq-eqb _ _ c.if-buffer-ne-SIZE.false)) ∙ test_holds _ _ _ (ap not c.if-not-is_sound.true))
 
 pub returns-else-not-is_sound : goal.returns-else-not-is_sound
 unfolding checked payload_of
 returns-else-not-is_sound c =
-    let is = sym (ap header_says c.in-Is.is)
-    ∙ c.header.ensures in
+    let is = sym (ap header_says c.in-Is.is) ∙ c.header.ensures in
     c.payload.ensures ∙ told_of_a_packet _ 0 (payload_behind _) _ is
     ∙ sym (told_of_a_packet _ 0 _ _ is ∙ test_fails _ _ _ (ap not (eq-eqb _ _ c.if-buffer-ne-SIZE.false))
     ∙ test_fails _ _ _ (ap not c.if-not-is_sound.false))

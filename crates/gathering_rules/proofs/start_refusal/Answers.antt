@@ -25,14 +25,12 @@ returns-then-refusal-ne0 c =
 
 pub returns-then-repeats : goal.returns-then-repeats
 returns-then-repeats c =
-    let known = sym (ap header_says c.in-Is.is)
-    ∙ c.header.ensures in
+    let known = sym (ap header_says c.in-Is.is) ∙ c.header.ensures in
     sym (start_left_to_memory _ _ _ _ known (sym c.header_refusal-refusal.ensures ∙ c.if-refusal-ne0.false)
     ∙ test_holds _ _ _ (sym c.repeats.ensures ∙ c.if-repeats.true))
 
 pub returns : goal.returns
 returns c =
-    let known = sym (ap header_says c.in-Is.is)
-    ∙ c.header.ensures in
+    let known = sym (ap header_says c.in-Is.is) ∙ c.header.ensures in
     sym (start_left_to_memory _ _ _ _ known (sym c.header_refusal-refusal.ensures ∙ c.if-refusal-ne0.false)
     ∙ test_fails _ _ _ (sym c.repeats.ensures ∙ c.if-repeats.false))

@@ -11,8 +11,7 @@ use Rattle.memory_words.proofs.repeats.Goals as goal
 pub returns-then-agree : goal.returns-then-agree
 returns-then-agree c =
     let a = c.args in
-    let agreed = ap (agree a.words.now) (sym c.of-label.ensures) ∙ sym c.agree.ensures
-    ∙ c.if-agree.true in
+    let agreed = ap (agree a.words.now) (sym c.of-label.ensures) ∙ sym c.agree.ensures ∙ c.if-agree.true in
     let label = c.of-label.result in
     c.marked.ensures ∙ ap (λ (m : Memory). marked m.marks label.section_number) c.memory_of-memory.ensures
     ∙ ap (λ (l : Label). marked (memory_in a.words.now).marks l.section_number) c.of-label.ensures

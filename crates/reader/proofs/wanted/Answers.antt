@@ -9,8 +9,7 @@ use Rattle.reader.proofs.wanted.Goals as goal
 pub overflow_add-result : goal.overflow_add-result
 unfolding fields_of
 overflow_add-result c =
-    let known = sym (ap header_says c.in-Is.is)
-    ∙ c.header.ensures in
+    let known = sym (ap header_says c.in-Is.is) ∙ c.header.ensures in
     let is = header_given _ _ known in
     omega (
       arith,
@@ -21,8 +20,7 @@ overflow_add-result c =
 pub returns-in-Is : goal.returns-in-Is
 unfolding fields_of
 returns-in-Is c =
-    let known = sym (ap header_says c.in-Is.is)
-    ∙ c.header.ensures in
+    let known = sym (ap header_says c.in-Is.is) ∙ c.header.ensures in
     ap (λ h. 3 + h.section_length) (header_given _ _ known).1
 
 pub returns-in-Refused : goal.returns-in-Refused

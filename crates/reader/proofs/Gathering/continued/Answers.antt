@@ -18,14 +18,12 @@ returns-then-not-self c memory =
 
 pub overflow_sub-missing : goal.overflow_sub-missing
 overflow_sub-missing c =
-    let w = open_counts _ c.requires.1
-    (not-false _ c.if-not-self.false) in
+    let w = open_counts _ c.requires.1 (not-false _ c.if-not-self.false) in
     omega arith
 
 pub lay-requires : goal.lay-requires
 lay-requires c =
-    let w = open_counts _ c.requires.1
-    (not-false _ c.if-not-self.false) in
+    let w = open_counts _ c.requires.1 (not-false _ c.if-not-self.false) in
     omega arith
 
 pub returns-then-bytes-missing : goal.returns-then-bytes-missing
@@ -42,21 +40,17 @@ slice_bounds-lay-end c = sym (length-take-le _ _ c.if-bytes-missing.false)
 pub lay-requires-2 : goal.lay-requires-2
 lay-requires-2 c =
     let a = c.args in
-    let w = open_counts _ c.requires.1
-    (not-false _ c.if-not-self.false) in
+    let w = open_counts _ c.requires.1 (not-false _ c.if-not-self.false) in
     omega (arith, length-take-le (a.self.wanted - a.self.held) a.bytes.now c.if-bytes-missing.false)
 
 pub slice_bounds-whole-end : goal.slice_bounds-whole-end
 slice_bounds-whole-end c =
-    let w = open_counts _
-    c.requires.1
-    (not-false _ c.if-not-self.false) in
+    let w = open_counts _ c.requires.1 (not-false _ c.if-not-self.false) in
     omega arith
 
 pub slice_bounds-whole-end-2 : goal.slice_bounds-whole-end-2
 slice_bounds-whole-end-2 c =
-    let w = open_counts _
-    c.requires.1 (not-false _ c.if-not-self.false) in
+    let w = open_counts _ c.requires.1 (not-false _ c.if-not-self.false) in
     sym (length-take-le _ _ (omega arith))
 
 pub returns : goal.returns

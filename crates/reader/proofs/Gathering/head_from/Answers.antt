@@ -14,32 +14,25 @@ use Rattle.reader.proofs.Gathering.head_from.Goals as goal
 
 pub overflow_add-at-in-To : goal.overflow_add-at-in-To
 overflow_add-at-in-To c =
-    let points = points_to _ _ _ (sym c.pointer_at.ensures
-    ∙ c.in-To.is) in
+    let points = points_to _ _ _ (sym c.pointer_at.ensures ∙ c.in-To.is) in
     omega (
       arith,
-      target_within _ _ _ points c.requires.0
-          c.requires.1,
+      target_within _ _ _ points c.requires.0 c.requires.1,
     )
 
 pub slice_bounds-started-count : goal.slice_bounds-started-count
 slice_bounds-started-count c =
-    let points = points_to _ _ _ (sym c.pointer_at.ensures
-    ∙ c.in-To.is) in
+    let points = points_to _ _ _ (sym c.pointer_at.ensures ∙ c.in-To.is) in
     omega (
       arith,
-      target_within _ _ _ points c.requires.0
-          c.requires.1,
+      target_within _ _ _ points c.requires.0 c.requires.1,
     )
 
 pub started-requires : goal.started-requires
 started-requires c =
-    let points = points_to _ _ _ (sym c.pointer_at.ensures
-    ∙ c.in-To.is) in (
+    let points = points_to _ _ _ (sym c.pointer_at.ensures ∙ c.in-To.is) in (
       rw part_to_end (simp length-drop (omega arith)),
-      target_within _ _ _ points
-          c.requires.0
-          c.requires.1,
+      target_within _ _ _ points c.requires.0 c.requires.1,
       c.requires.2,
     )
 
@@ -55,8 +48,7 @@ pub returns-in-To : goal.returns-in-To
 returns-in-To c =
     let a = c.args in
     let to = c.in-To.to in
-    let points = points_to _ _ to (sym c.pointer_at.ensures
-    ∙ c.in-To.is) in
+    let points = points_to _ _ to (sym c.pointer_at.ensures ∙ c.in-To.is) in
     c.started.ensures
     ∙ ap
     (λ (bytes : List ℕ). gathered_of (started a.self.form (memory_in a.memory.now) bytes (a.start + 1 + to) a.buffer.now))

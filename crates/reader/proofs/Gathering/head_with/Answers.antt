@@ -15,14 +15,12 @@ returns-in_default c =
 pub head_from-requires : goal.head_from-requires
 head_from-requires c =
     let a = c.args in
-    let p = place_passed _ a.self a.packet.now a.buffer.now _ c.is_sound.ensures _ c.checked-payload.ensures
-    _ c.in-At.is in
+    let p = place_passed _ a.self a.packet.now a.buffer.now _ c.is_sound.ensures _ c.checked-payload.ensures _ c.in-At.is in
     (p.sized, p.within, p.lent)
 
 pub returns : goal.returns
 unfolding head_of
 returns c =
     let a = c.args in
-    let goes = step_from _ a.self a.packet.now a.buffer.now _ c.is_sound.ensures _ c.checked-payload.ensures
-    _ _ c.in-At.is in
+    let goes = step_from _ a.self a.packet.now a.buffer.now _ c.is_sound.ensures _ c.checked-payload.ensures _ _ c.in-At.is in
     c.head_from.ensures ∙ sym (ap gathered_of goes)

@@ -20,16 +20,14 @@ returns-then-to-eq0 c memory =
 
 pub overflow_add-end : goal.overflow_add-end
 overflow_add-end c =
-    let points = points_to _ _ _ (sym c.pointer_at.ensures
-    ∙ c.in-To.is) in
+    let points = points_to _ _ _ (sym c.pointer_at.ensures ∙ c.in-To.is) in
     omega (arith, end_within _ _ _ points c.requires.0 c.if-to-eq0.false)
 
 pub returns-in-NoUnitStart : goal.returns-in-NoUnitStart
 returns-in-NoUnitStart c memory =
     let a = c.args in
     let reader = with_memory memory a.self in
-    let unit = no_unit_start _ _ (sym c.pointer_at.ensures
-    ∙ c.in-NoUnitStart.is) in
+    let unit = no_unit_start _ _ (sym c.pointer_at.ensures ∙ c.in-NoUnitStart.is) in
     c.continued.ensures memory
     ∙ ap (λ (bytes : List ℕ). gathered_of (continued reader bytes a.buffer.now)) (part_to_end a.packet.now a.start)
     ∙ sym (ap gathered_of (tail_without_unit_start reader a.packet.now a.start a.buffer.now unit))
@@ -38,8 +36,7 @@ pub returns-else-to-eq0 : goal.returns-else-to-eq0
 returns-else-to-eq0 c memory =
     let a = c.args in
     let reader = with_memory memory a.self in
-    let points = points_to _ _ _ (sym c.pointer_at.ensures
-    ∙ c.in-To.is) in
+    let points = points_to _ _ _ (sym c.pointer_at.ensures ∙ c.in-To.is) in
     c.continued-in-To.ensures memory
     ∙ ap (λ (bytes : List ℕ). gathered_of (continued reader bytes a.buffer.now)) (part_of_lem a.packet.now (a.start + 1) _)
     ∙ sym (ap gathered_of (tail_up_to reader a.packet.now a.start a.buffer.now _ points c.if-to-eq0.false))

@@ -17,14 +17,12 @@ returns-in_default c =
 pub tail_from-requires : goal.tail_from-requires
 tail_from-requires c =
     let a = c.args in
-    let p = place_passed _ a.self a.packet.now a.buffer.now _ c.is_sound.ensures _ c.checked-payload.ensures
-    _ c.in-At.is in
+    let p = place_passed _ a.self a.packet.now a.buffer.now _ c.is_sound.ensures _ c.checked-payload.ensures _ c.in-At.is in
     (p.sized, p.within, p.lent, counts_sound _ p.sound_state)
 
 pub returns : goal.returns
 unfolding tail_of
 returns c =
     let a = c.args in
-    let goes = step_from _ a.self a.packet.now a.buffer.now _ c.is_sound.ensures _ c.checked-payload.ensures
-    _ _ c.in-At.is in
+    let goes = step_from _ a.self a.packet.now a.buffer.now _ c.is_sound.ensures _ c.checked-payload.ensures _ _ c.in-At.is in
     c.tail_from.ensures (memory_in a.memory.now) ∙ sym (ap gathered_of goes)
