@@ -63,10 +63,10 @@ fn compare_all(out: Stdout, list: &[u8]) -> io::Result<()> {
 
 // Compares the vector at the tally's place, and goes on behind it.
 fn compare_next(out: Stdout, list: &[u8], tally: Tally) -> Tally
-    requires at_in_bounds { tally.at < length list.now }
-    requires compared_le_at { (tally.compared ≤ tally.at) × (tally.differ ≤ tally.compared) }
-    ensures at_lt_at { (tally.at < result.at) × (result.at ≤ length list.now) }
-    ensures compared_le_at_2 { (result.compared ≤ result.at) × (result.differ ≤ result.compared) }
+    requires within { tally.at < length list.now }
+    requires counted { (tally.compared ≤ tally.at) × (tally.differ ≤ tally.compared) }
+    ensures goes_on { (tally.at < result.at) × (result.at ≤ length list.now) }
+    ensures counted_after { (result.compared ≤ result.at) × (result.differ ≤ result.compared) }
 {
     let at = tally.at;
     let left = list.len() - at;
