@@ -1,11 +1,10 @@
 // The 32-bit CRC of ISO/IEC 13818-1, Annex A, eight bytes at a time.
 #![tactic(auto)]
 
-ghost use Rattle.std.specs.Prelude.{◌≡◌, ◌-◌, ◌*◌, ◌<◌, ◌≤◌, length};
-ghost use Rattle.fields.specs.BitString.{number_at};
+ghost use Rattle.std.specs.Prelude.{◌≡◌};
 ghost use Rattle.crc_steps.specs.BitSteps.{bits_enter};
 ghost use Rattle.crc_steps.specs.StepTable.{StepTable};
-ghost use Rattle.mpegts_crc.specs.Crc.{all_ones, crc_of};
+ghost use Rattle.mpegts_crc.specs.Crc.{crc_of};
 
 use crc_steps::eight_bytes_enter;
 use fields::word;
