@@ -20,7 +20,7 @@ use Rattle.answers.specs.declared.Refusal.{Refusal}
 use Rattle.walks.specs.Walk.{Found, found, nothing, none_fits_at}
 use Rattle.walks.proofs.Walks.{found_entry, found_none}
 use Rattle.pat.specs.Syntax.{network_entry, program_entry}
-use Rattle.pat.specs.Programs.{program_of, program_kind, why_no_program, program_says, program_at}
+use Rattle.pat.specs.Programs.{program_of, program_kind, refusal_says, program_says, program_at}
 use Rattle.pat.specs.declared.ProgramRefusal.{ProgramRefusal}
 use Rattle.pat.specs.declared.ProgramDescriptor.{ProgramDescriptor}
 use Rattle.pat.specs.declared.ProgramDescriptor.TheVariants.{Network, Program}
@@ -63,4 +63,4 @@ pub refused_there : (answer : Result (ProgramDescriptor × ℕ) ProgramRefusal) 
     → IsErr answer × IsErrAnd answer (λ r. r ≡ ProgramRefusal.Refused refusal)
     → program_says answer ≡ refused (number_of refusal) (nothing program_kind)
 refused_there (Ok program) refusal e = absurd e.1
-refused_there (Err r) refusal e = ap why_no_program e.1
+refused_there (Err r) refusal e = ap refusal_says e.1

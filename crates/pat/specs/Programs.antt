@@ -29,14 +29,14 @@ program_kind =
     }
 
 -- the number and the offset of each refusal
-abbrev pub why_no_program : ProgramRefusal → Says (Found ProgramDescriptor)
-why_no_program (ProgramRefusal.Tail offset) = none_fits_at program_kind offset pat_tail
-why_no_program (ProgramRefusal.Refused refusal) = refused (number_of refusal) (nothing program_kind)
+abbrev pub refusal_says : ProgramRefusal → Says (Found ProgramDescriptor)
+refusal_says (ProgramRefusal.Tail offset) = none_fits_at program_kind offset pat_tail
+refusal_says (ProgramRefusal.Refused refusal) = refused (number_of refusal) (nothing program_kind)
 
 -- the number, the values and the offset of the answer
 abbrev pub program_says : Result (ProgramDescriptor × ℕ) ProgramRefusal → Says (Found ProgramDescriptor)
 program_says (Ok answer) = found answer.0 answer.1
-program_says (Err refusal) = why_no_program refusal
+program_says (Err refusal) = refusal_says refusal
 
 -- "Walks take a body and a position"
 abbrev pub program_at : List ℕ → ℕ → Says (Found ProgramDescriptor)

@@ -2,7 +2,7 @@
 #![tactic(auto)]
 
 ghost use Rattle.std.specs.Prelude.{◌≡◌};
-ghost use Rattle.pat.specs.Programs.{why_no_program, program_says, program_at};
+ghost use Rattle.pat.specs.Programs.{refusal_says, program_says, program_at};
 ghost use Rattle.pat.specs.declared.ProgramRefusal.TheVariants.{Refused};
 
 use answers::{Answer, Refusal};
@@ -36,7 +36,7 @@ impl From<Refusal> for ProgramRefusal {
 
 impl ProgramRefusal {
     pub fn number(self) -> u8
-        ensures { result ≡ (why_no_program self).number }
+        ensures { result ≡ (refusal_says self).number }
     {
         match self {
             ProgramRefusal::Tail { .. } => Answer::PAT_TAIL,
