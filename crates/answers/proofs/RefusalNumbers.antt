@@ -71,6 +71,15 @@ pub no_refusal_is_0 : (r : Refusal) → number_of r ≡ 0 → ⊥
 unfolding numbered when◌then◌else◌
 no_refusal_is_0 = no_refusals_number 0 (λ (e : ◌≡◌ {A = ℕ} 26 0). omega arith)
 
+-- 1, which keeps bytes, and 2, which delivers
+pub no_refusal_is_1 : (r : Refusal) → number_of r ≡ 1 → ⊥
+unfolding numbered when◌then◌else◌
+no_refusal_is_1 = no_refusals_number 1 (λ (e : ◌≡◌ {A = ℕ} 26 1). omega arith)
+
+pub no_refusal_is_2 : (r : Refusal) → number_of r ≡ 2 → ⊥
+unfolding numbered when◌then◌else◌
+no_refusal_is_2 = no_refusals_number 2 (λ (e : ◌≡◌ {A = ℕ} 26 2). omega arith)
+
 -- and the numbers of the rows that tell where a walk stopped
 pub no_refusal_is_24 : (r : Refusal) → number_of r ≡ 24 → ⊥
 unfolding numbered when◌then◌else◌

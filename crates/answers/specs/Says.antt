@@ -20,3 +20,8 @@ refused n none = record { number = n; values = none }
 abbrev pub says : {Values : Type 0} → Values → Result Values Refusal → Says Values
 says none (Ok values) = given values
 says none (Err refusal) = refused (number_of refusal) none
+
+-- its number alone: 0 where nothing refuses
+abbrev pub answer_number : {Values : Type 0} → Result Values Refusal → ℕ
+answer_number (Ok values) = 0
+answer_number (Err refusal) = number_of refusal

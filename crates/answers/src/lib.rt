@@ -4,7 +4,8 @@
 ghost use Rattle.std.specs.Prelude.{◌≡◌};
 ghost use Rattle.answers.specs.Refusals.{number_of};
 
-// The rows that are no case of `Refusal`: what a step does, and the refusals that tell numbers, which are cases of the calls' own errors.
+// The rows that are asked for by number: what a step does, the refusals that make a reader forget, and those that tell numbers, which are cases of the
+// calls' own errors.
 #[derive(Drop)]
 pub struct Answer;
 
@@ -14,6 +15,10 @@ impl Answer {
     pub const BYTES_KEPT: u8 = 1;
 
     pub const DELIVERED: u8 = 2;
+
+    pub const POINTER_BEYOND_REST: u8 = Refusal::PointerBeyondRest as u8;
+
+    pub const UNDER_3_BYTES: u8 = Refusal::Under3Bytes as u8;
 
     pub const PMT_TOO_SHORT: u8 = 22;
 
