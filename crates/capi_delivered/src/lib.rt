@@ -7,16 +7,15 @@ ghost use Rattle.capi_delivered.specs.Delivered.{holder_of, place_from_c, sectio
 use capi_numbers::JambpepperPlace;
 use delivered::{Holder, Place, section};
 
+#[tactic(auto, using(fields::proofs::Choices::choices), unfolding(crate::specs::Delivered::holder_of))]
 fn holder_of(number: u8) -> Holder
     ensures { result ≡ holder_of number }
 {
-    if number == 1 {
-        return Holder::Packet;
+    match number {
+        1 => Holder::Packet,
+        2 => Holder::Buffer,
+        _ => Holder::Nowhere,
     }
-    if number == 2 {
-        return Holder::Buffer;
-    }
-    Holder::Nowhere
 }
 
 fn place_from_c(place: JambpepperPlace) -> Place
@@ -30,6 +29,7 @@ fn place_from_c(place: JambpepperPlace) -> Place
 }
 
 // Where C finds the section: the place, if a section is read there, else nowhere.
+#[tactic(auto, using(fields::proofs::Choices::choices), unfolding(crate::specs::Delivered::section_for_c))]
 #[unsafe(no_mangle)]
 pub extern "C" fn jambpepper_section<'a>(
     packet: &'a [u8],
@@ -40,12 +40,13 @@ pub extern "C" fn jambpepper_section<'a>(
     ensures { result ≡ section_for_c packet.now buffer.now answer place }
 {
     let found = section(packet, buffer, answer, place_from_c(place));
-    if found.len() == 0 {
-        return JambpepperPlace {
+    if found.is_empty() {
+        JambpepperPlace {
             start: 0,
             length: 0,
             holder: 0,
-        };
+        }
+    } else {
+        place
     }
-    place
 }
