@@ -1,0 +1,57 @@
+// What is printed of a stream as it comes, and counted.
+use crate::lines;
+use crate::totals::Totals;
+use crate::words::Words;
+use std::io;
+use std::io::Stdout;
+
+// With how what was told so far was written: an output that fails goes on failing.
+#[derive(Drop)]
+pub struct Report {
+    pub out: Stdout,
+    pub words: Words,
+    pub totals: Totals,
+    pub written: io::Result<()>,
+}
+
+impl Report {
+    pub fn begun(out: Stdout, words: Words) -> Report {
+        Report {
+            out,
+            words,
+            totals: Totals::none(),
+            written: lines::put_heading(out, words.pid, words.form),
+        }
+    }
+
+    // So many bytes were passed over, that are of no packet.
+    pub fn skip(&mut self, bytes: u64) {
+        if bytes != 0 {
+            self.tell(lines::put_skipped(self.out, self.totals.packets, bytes));
+            self.totals.skipped = self.totals.skipped.saturating_add(bytes);
+        }
+    }
+
+    pub fn refuse(&mut self, answer: u8) {
+        self.totals.count_refused(answer);
+        if self.words.all {
+            self.tell(lines::put_refused(self.out, self.totals.packets, answer));
+        }
+    }
+
+    pub fn deliver(&mut self, section: &[u8]) {
+        let written = lines::put_section(self.out, self.totals.packets, self.words.form, section);
+        if self.words.hex {
+            let _ = lines::put_bytes(self.out, section);
+        }
+        self.tell(written);
+        self.totals.delivered = self.totals.delivered.saturating_add(1);
+    }
+
+    // What was told was written, or failed to be.
+    fn tell(&mut self, written: io::Result<()>) {
+        if written.is_err() {
+            self.written = written;
+        }
+    }
+}

@@ -1,0 +1,143 @@
+// The work on a stream.
+ghost use Rattle.std.specs.Prelude.{◌≤◌, length};
+
+use crate::input;
+use crate::input::Found;
+use crate::report::Report;
+use crate::words::Words;
+use answers::Answer;
+use packet::{HeaderAnswer, Packet};
+use reader::{Reader, Step};
+use std::io;
+use std::io::{Read, Stdout};
+
+// The bytes of the stream that are held at once.
+const ROOM: usize = 65536;
+
+// A stream as far as it is worked. Out of step, `skipped` counts the bytes since the last packet; in step it is 0. The rest are the
+// bytes behind, too few to tell what they are.
+#[derive(Drop)]
+pub struct Run {
+    reader: Reader,
+    buffer: [u8; Reader::BUFFER_SIZE],
+    skipped: u64,
+    rest: usize,
+    pub report: Report,
+}
+
+impl Run {
+    pub fn begun(out: Stdout, words: Words) -> Run {
+        Run {
+            reader: Reader::fresh(words.form),
+            buffer: [0; Reader::BUFFER_SIZE],
+            skipped: 0,
+            rest: 0,
+            report: Report::begun(out, words),
+        }
+    }
+
+    // Until the input ends, or what is told cannot be written. A proved loop has to end, and nothing says that the input does: so it
+    // counts its turns, to a number that no run reaches.
+    pub fn work_all(&mut self, input: &mut impl Read) -> io::Result<()> {
+        let mut room = [0u8; ROOM];
+        let mut end = 0;
+        for _ in 0..u64::MAX {
+            let rest = self.work_bytes(&room[..end]);
+            self.rest = rest;
+            if self.report.written.is_err() {
+                break;
+            }
+            room.copy_within(end - rest..end, 0);
+            let count = input.read(&mut room[rest..])?;
+            if count == 0 {
+                break;
+            }
+            end = rest + count;
+        }
+        Ok(())
+    }
+
+    // Works what the bytes have, and answers how many are left.
+    fn work_bytes(&mut self, mut bytes: &[u8]) -> usize
+        ensures { result ≤ length bytes.entry.now }
+    {
+        while let Some((found, rest)) = input::split_first(self.skipped == 0, bytes) {
+            self.work(found);
+            bytes = rest;
+        }
+        bytes.len()
+    }
+
+    fn work(&mut self, found: Found<'_>) {
+        match found {
+            Found::Packet(packet) => {
+                self.report.skip(self.skipped);
+                self.skipped = 0;
+                self.work_packet(packet);
+                self.count_packet();
+            }
+            Found::Damaged => {
+                self.report.refuse(Answer::NO_SYNC_BYTE);
+                self.count_packet();
+            }
+            Found::NoPacket => self.skipped = self.skipped.saturating_add(1),
+        }
+    }
+
+    fn count_packet(&mut self) {
+        self.report.totals.packets = self.report.totals.packets.saturating_add(1);
+    }
+
+    // The reader is fed the packets of its PID.
+    fn work_packet(&mut self, packet: &[u8]) {
+        if let HeaderAnswer::Is(header) = Packet::header(packet)
+            && header.pid == self.report.words.pid
+        {
+            self.report.totals.of_pid = self.report.totals.of_pid.saturating_add(1);
+            self.both_steps(packet);
+        }
+    }
+
+    fn both_steps(&mut self, packet: &[u8]) {
+        let tail = self.reader.tail(packet, &mut self.buffer);
+        self.tell(tail, packet);
+        let head = tail.reader.head(packet, &mut self.buffer);
+        if !both_refuse(head.answer) {
+            self.tell(head, packet);
+        }
+        self.reader = head.reader;
+    }
+
+    fn tell(&mut self, step: Step, packet: &[u8]) {
+        if step.answer == Answer::DELIVERED {
+            self.report.deliver(reader::section(packet, &self.buffer, step.answer, step.place));
+        } else if Answer::PACKET_SIZE <= step.answer {
+            self.report.refuse(step.answer);
+        }
+    }
+
+    // Counts the bytes of which no packet or no section came, and writes the totals.
+    pub fn put_totals(&mut self) -> io::Result<()> {
+        if self.reader.is_open {
+            self.report.totals.kept = u64::from(self.reader.held);
+        }
+        if self.skipped == 0 {
+            self.report.totals.rest = self.rest as u64;
+        } else {
+            self.report
+                .skip(self.skipped.saturating_add(self.rest as u64));
+        }
+        self.report
+            .totals
+            .put(self.report.out, self.report.words.pid)
+    }
+}
+
+// What both steps refuse alike counts once, with the tail step: a packet's own refusals, a pointer beyond the rest, and a state
+// that is not sound.
+fn both_refuse(answer: u8) -> bool {
+    matches!(
+        answer,
+        Answer::PACKET_SIZE..=Answer::POINTER_BEYOND_REST | Answer::STATE_NOT_SOUND
+    )
+}
