@@ -2,9 +2,9 @@
 // packet's, counted from 0. What puts several lines answers how the first was written: an output that fails goes on failing.
 use crate::names;
 use answers::{Answer, Refusal};
-use pat::{PatSection, ProgramAnswer, ProgramDescriptor};
-use pmt::{PmtAnswer, PmtSection, StreamAnswer, StreamInfo};
-use psi::{Body, HeaderAnswer, Section, TableHeaderAnswer, TableSyntaxHeader};
+use pat::{PatSection, ProgramDescriptor, ProgramRefusal};
+use pmt::{PmtSection, StreamInfo, StreamRefusal, TooShort};
+use psi::{Section, TableSyntaxHeader};
 use reader::Form;
 use std::io;
 use std::io::{Print, Stdout};
@@ -29,9 +29,10 @@ pub fn put_heading(out: Stdout, pid: u16, form: Form) -> io::Result<()> {
     )
 }
 
-pub fn put_refused(out: Stdout, packet: u64, answer: u8) -> io::Result<()> {
-    let meaning = names::of_answer(answer);
-    println!(out; "refused {packet:>10}  {answer}: {meaning}")
+pub fn put_refused(out: Stdout, packet: u64, refusal: Refusal) -> io::Result<()> {
+    let number = refusal.number();
+    let meaning = names::of_refusal(refusal);
+    println!(out; "refused {packet:>10}  {number}: {meaning}")
 }
 
 pub fn put_skipped(out: Stdout, packet: u64, bytes: u64) -> io::Result<()> {
@@ -41,8 +42,8 @@ pub fn put_skipped(out: Stdout, packet: u64, bytes: u64) -> io::Result<()> {
 // A delivered section: its line, and the entries of a PAT or PMT below it.
 pub fn put_section(out: Stdout, packet: u64, form: Form, section: &[u8]) -> io::Result<()> {
     match Section::header(section) {
-        HeaderAnswer::Refused(refusal) => put_refused(out, packet, refusal.number()),
-        HeaderAnswer::Is(header) => match form {
+        Err(refusal) => put_refused(out, packet, refusal),
+        Ok(header) => match form {
             Form::Compact => put_compact(out, packet, header.table_id, section.len()),
             Form::Full | Form::Once => put_full(out, packet, header.table_id, section),
         },
@@ -59,8 +60,8 @@ fn put_compact(out: Stdout, packet: u64, table_id: u8, size: usize) -> io::Resul
 
 fn put_full(out: Stdout, packet: u64, table_id: u8, section: &[u8]) -> io::Result<()> {
     match Section::table_header(section) {
-        TableHeaderAnswer::Refused(refusal) => put_refused(out, packet, refusal.number()),
-        TableHeaderAnswer::Is(header) => {
+        Err(refusal) => put_refused(out, packet, refusal),
+        Ok(header) => {
             let written = put_table_header(out, packet, table_id, header, section.len());
             put_entries(out, table_id, section);
             written
@@ -92,7 +93,7 @@ fn put_table_header(
 
 // A body lies within its section.
 fn put_entries(out: Stdout, table_id: u8, section: &[u8]) {
-    if let Body::At(place) = Section::body(section)
+    if let Ok(place) = Section::body(section)
         && let Some((_, behind)) = section.split_at_checked(place.start)
         && let Some((body, _)) = behind.split_at_checked(place.len)
     {
@@ -110,18 +111,19 @@ fn put_body(out: Stdout, table_id: u8, body: &[u8]) {
 
 fn put_map(out: Stdout, body: &[u8]) {
     match PmtSection::start(body) {
-        PmtAnswer::TooShort { needed, actual } => {
-            let answer = Answer::PMT_TOO_SHORT;
-            let meaning = names::of_answer(answer);
-            let _ = println!(out;
-                "  stopped at byte 0 of the body, {answer}: {meaning}, {actual} bytes of {needed}"
-            );
-        }
-        PmtAnswer::Is(map) => {
+        Ok(map) => {
             let _ = put_clock(out, map);
             put_streams(out, body, map.streams);
         }
+        Err(too_short) => put_too_short(out, too_short),
     }
+}
+
+fn put_too_short(out: Stdout, TooShort { needed, actual }: TooShort) {
+    let number = Answer::PMT_TOO_SHORT;
+    let _ = println!(out;
+        "  stopped at byte 0 of the body, {number}: PMT body too short, {actual} bytes of {needed}"
+    );
 }
 
 fn put_clock(out: Stdout, map: PmtSection) -> io::Result<()> {
@@ -151,14 +153,25 @@ fn put_walk<F: Fn(usize) -> Option<usize>>(body: &[u8], mut position: usize, put
     }
 }
 
-// Answers the next entry's position; none where the walk is over.
+// Answers the next entry's position; none where the walk is over. One that is at the body's end is silent.
 fn put_program_at(out: Stdout, body: &[u8], position: usize) -> Option<usize> {
     match PatSection::program_at(body, position) {
-        ProgramAnswer::Refused(refusal) => put_end(out, position, refusal),
-        ProgramAnswer::Tail { offset } => put_stop(out, offset, Answer::PAT_TAIL),
-        ProgramAnswer::Is { program, next } => {
+        Ok((program, next)) => {
             let _ = put_program(out, program);
             return Some(next);
+        }
+        Err(ProgramRefusal::Refused(Refusal::WalkAtEnd)) => {}
+        Err(refusal) => {
+            let offset = match refusal {
+                ProgramRefusal::Tail { offset } => offset,
+                ProgramRefusal::Refused(_) => position,
+            };
+            put_stop(
+                out,
+                offset,
+                refusal.number(),
+                names::of_program_refusal(refusal),
+            );
         }
     }
     None
@@ -166,29 +179,30 @@ fn put_program_at(out: Stdout, body: &[u8], position: usize) -> Option<usize> {
 
 fn put_stream_at(out: Stdout, body: &[u8], position: usize) -> Option<usize> {
     match PmtSection::stream_at(body, position) {
-        StreamAnswer::Refused(refusal) => put_end(out, position, refusal),
-        StreamAnswer::Under5 { offset } => put_stop(out, offset, Answer::STREAM_UNDER_5),
-        StreamAnswer::InfoPastEnd { offset } => put_stop(out, offset, Answer::INFO_PAST_END),
-        StreamAnswer::Is { stream, next } => {
+        Ok((stream, next)) => {
             let _ = put_stream(out, stream);
             return Some(next);
+        }
+        Err(StreamRefusal::Refused(Refusal::WalkAtEnd)) => {}
+        Err(refusal) => {
+            let offset = match refusal {
+                StreamRefusal::Under5 { offset } | StreamRefusal::InfoPastEnd { offset } => offset,
+                StreamRefusal::Refused(_) => position,
+            };
+            put_stop(
+                out,
+                offset,
+                refusal.number(),
+                names::of_stream_refusal(refusal),
+            );
         }
     }
     None
 }
 
-// A walk that is at the body's end is silent.
-fn put_end(out: Stdout, position: usize, refusal: Refusal) {
-    let answer = refusal.number();
-    if answer != Answer::WALK_AT_END {
-        put_stop(out, position, answer);
-    }
-}
-
-// One that stops before says where and why.
-fn put_stop(out: Stdout, offset: usize, answer: u8) {
-    let meaning = names::of_answer(answer);
-    let _ = println!(out; "  stopped at byte {offset} of the body, {answer}: {meaning}");
+// A walk that stops before the body's end says where and why.
+fn put_stop(out: Stdout, offset: usize, number: u8, meaning: &str) {
+    let _ = println!(out; "  stopped at byte {offset} of the body, {number}: {meaning}");
 }
 
 fn put_program(out: Stdout, program: ProgramDescriptor) -> io::Result<()> {

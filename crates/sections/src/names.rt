@@ -1,5 +1,7 @@
 // What numbers mean, in words.
-use answers::Answer;
+use answers::Refusal;
+use pat::ProgramRefusal;
+use pmt::StreamRefusal;
 use reader::Form;
 
 pub fn of_form(form: Form) -> &'static str {
@@ -21,39 +23,45 @@ pub fn of_table(table_id: u8) -> &'static str {
     }
 }
 
-// The meaning of an answer's number.
-pub fn of_answer(answer: u8) -> &'static str {
-    match answer {
-        Answer::NOTHING_FOR_THIS_STEP => "nothing for this step",
-        Answer::BYTES_KEPT => "bytes kept",
-        Answer::DELIVERED => "delivered",
-        Answer::PACKET_SIZE => "packet not 188 bytes",
-        Answer::NO_SYNC_BYTE => "no 0x47 where a packet starts",
-        Answer::BUFFER_SIZE => "buffer not 1024 bytes",
-        Answer::NO_PAYLOAD => "packet without payload",
-        Answer::PAYLOAD_EMPTY => "payload start is 188",
-        Answer::PAYLOAD_BEYOND => "payload start above 188",
-        Answer::POINTER_BEYOND_REST => "pointer beyond the rest of the payload",
-        Answer::UNDER_3_BYTES => "under 3 bytes of a section",
-        Answer::SYNTAX_INDICATOR => "syntax indicator not as the form needs it",
-        Answer::UNDER_8_BYTES => "under 8 bytes of a section",
-        Answer::LENGTH_ABOVE_1021 => "section length above 1021",
-        Answer::ALREADY_DELIVERED => "already delivered",
-        Answer::NO_SECTION_OPEN => "no section open",
-        Answer::SECTION_UNDER_12 => "whole section under 12 bytes",
-        Answer::CRC_NOT_ZERO => "CRC remainder not zero",
-        Answer::NO_ADAPTATION_FIELD => "no adaptation field",
-        Answer::ADAPTATION_FIELD_LENGTH => "adaptation field length wrong",
-        Answer::FLAG_CLEAR => "flag of an optional part clear",
-        Answer::FIELD_ENDS_BEFORE => "adaptation field ends before the part does",
-        Answer::PMT_TOO_SHORT => "PMT body too short",
-        Answer::WALK_AT_END => "walk at its end",
-        Answer::PAT_TAIL => "under 4 bytes of a PAT entry",
-        Answer::STATE_NOT_SOUND => "state not sound",
-        Answer::POSITION_ABOVE_LENGTH => "position above the body's length",
-        Answer::STREAM_UNDER_5 => "under 5 bytes of a stream entry",
-        Answer::INFO_PAST_END => "stream info past the end of the body",
-        _ => "no answer of the table",
+pub fn of_refusal(refusal: Refusal) -> &'static str {
+    match refusal {
+        Refusal::PacketSize => "packet not 188 bytes",
+        Refusal::NoSyncByte => "no 0x47 where a packet starts",
+        Refusal::BufferSize => "buffer not 1024 bytes",
+        Refusal::NoPayload => "packet without payload",
+        Refusal::PayloadEmpty => "payload start is 188",
+        Refusal::PayloadBeyond => "payload start above 188",
+        Refusal::PointerBeyondRest => "pointer beyond the rest of the payload",
+        Refusal::Under3Bytes => "under 3 bytes of a section",
+        Refusal::SyntaxIndicator => "syntax indicator not as the form needs it",
+        Refusal::Under8Bytes => "under 8 bytes of a section",
+        Refusal::LengthAbove1021 => "section length above 1021",
+        Refusal::AlreadyDelivered => "already delivered",
+        Refusal::NoSectionOpen => "no section open",
+        Refusal::SectionUnder12 => "whole section under 12 bytes",
+        Refusal::CrcNotZero => "CRC remainder not zero",
+        Refusal::NoAdaptationField => "no adaptation field",
+        Refusal::AdaptationFieldLength => "adaptation field length wrong",
+        Refusal::FlagClear => "flag of an optional part clear",
+        Refusal::FieldEndsBefore => "adaptation field ends before the part does",
+        Refusal::WalkAtEnd => "walk at its end",
+        Refusal::StateNotSound => "state not sound",
+        Refusal::PositionAboveLength => "position above the body's length",
+    }
+}
+
+pub fn of_program_refusal(refusal: ProgramRefusal) -> &'static str {
+    match refusal {
+        ProgramRefusal::Tail { .. } => "under 4 bytes of a PAT entry",
+        ProgramRefusal::Refused(refusal) => of_refusal(refusal),
+    }
+}
+
+pub fn of_stream_refusal(refusal: StreamRefusal) -> &'static str {
+    match refusal {
+        StreamRefusal::Under5 { .. } => "under 5 bytes of a stream entry",
+        StreamRefusal::InfoPastEnd { .. } => "stream info past the end of the body",
+        StreamRefusal::Refused(refusal) => of_refusal(refusal),
     }
 }
 

@@ -2,6 +2,7 @@
 use crate::lines;
 use crate::totals::Totals;
 use crate::words::Words;
+use answers::Refusal;
 use std::io;
 use std::io::Stdout;
 
@@ -32,10 +33,10 @@ impl Report {
         }
     }
 
-    pub fn refuse(&mut self, answer: u8) {
-        self.totals.count_refused(answer);
+    pub fn refuse(&mut self, refusal: Refusal) {
+        self.totals.count_refused(refusal);
         if self.words.all {
-            self.tell(lines::put_refused(self.out, self.totals.packets, answer));
+            self.tell(lines::put_refused(self.out, self.totals.packets, refusal));
         }
     }
 

@@ -5,9 +5,9 @@ use crate::input;
 use crate::input::Found;
 use crate::report::Report;
 use crate::words::Words;
-use answers::Answer;
-use packet::{HeaderAnswer, Packet};
-use reader::{Reader, Step};
+use answers::{Answer, Refusal};
+use packet::Packet;
+use reader::{Progress, Reader, Step, section};
 use std::io;
 use std::io::{Read, Stdout};
 
@@ -77,7 +77,7 @@ impl Run {
                 self.count_packet();
             }
             Found::Damaged => {
-                self.report.refuse(Answer::NO_SYNC_BYTE);
+                self.report.refuse(Refusal::NoSyncByte);
                 self.count_packet();
             }
             Found::NoPacket => self.skipped = self.skipped.saturating_add(1),
@@ -90,7 +90,7 @@ impl Run {
 
     // The reader is fed the packets of its PID.
     fn work_packet(&mut self, packet: &[u8]) {
-        if let HeaderAnswer::Is(header) = Packet::header(packet)
+        if let Ok(header) = Packet::header(packet)
             && header.pid == self.report.words.pid
         {
             self.report.totals.of_pid = self.report.totals.of_pid.saturating_add(1);
@@ -102,17 +102,20 @@ impl Run {
         let tail = self.reader.tail(packet, &mut self.buffer);
         self.tell(tail, packet);
         let head = tail.reader.head(packet, &mut self.buffer);
-        if !both_refuse(head.answer) {
+        if !both_refuse(head) {
             self.tell(head, packet);
         }
         self.reader = head.reader;
     }
 
     fn tell(&mut self, step: Step, packet: &[u8]) {
-        if step.answer == Answer::DELIVERED {
-            self.report.deliver(reader::section(packet, &self.buffer, step.answer, step.place));
-        } else if Answer::PACKET_SIZE <= step.answer {
-            self.report.refuse(step.answer);
+        match step.answer {
+            Ok(Progress::Delivered(place)) => {
+                let delivered = section(packet, &self.buffer, Answer::DELIVERED, place);
+                self.report.deliver(delivered);
+            }
+            Ok(Progress::NothingForThisStep | Progress::BytesKept) => {}
+            Err(refusal) => self.report.refuse(refusal),
         }
     }
 
@@ -135,9 +138,18 @@ impl Run {
 
 // What both steps refuse alike counts once, with the tail step: a packet's own refusals, a pointer beyond the rest, and a state
 // that is not sound.
-fn both_refuse(answer: u8) -> bool {
+fn both_refuse(head: Step) -> bool {
     matches!(
-        answer,
-        Answer::PACKET_SIZE..=Answer::POINTER_BEYOND_REST | Answer::STATE_NOT_SOUND
+        head.answer,
+        Err(
+            Refusal::PacketSize
+                | Refusal::NoSyncByte
+                | Refusal::BufferSize
+                | Refusal::NoPayload
+                | Refusal::PayloadEmpty
+                | Refusal::PayloadBeyond
+                | Refusal::PointerBeyondRest
+                | Refusal::StateNotSound
+        )
     )
 }

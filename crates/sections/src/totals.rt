@@ -1,7 +1,15 @@
 // The totals of a stream.
 use crate::names;
+use answers::Refusal;
 use std::io;
 use std::io::Stdout;
+
+// How often a step refused so.
+#[derive(Clone, Copy)]
+struct Refused {
+    refusal: Refusal,
+    count: u64,
+}
 
 // How many of each there were; a total that is full stays so.
 #[derive(Drop)]
@@ -10,8 +18,8 @@ pub struct Totals {
     pub of_pid: u64,
     pub delivered: u64,
     pub refused: u64,
-    // The refusals by the number of the answer, with a place for every number of a byte.
-    pub by_answer: [u64; 256],
+    // By the refusal's number, with a place for every number of a byte.
+    by_number: [Option<Refused>; 256],
     pub skipped: u64,
     pub rest: u64,
     pub kept: u64,
@@ -24,16 +32,20 @@ impl Totals {
             of_pid: 0,
             delivered: 0,
             refused: 0,
-            by_answer: [0; 256],
+            by_number: [None; 256],
             skipped: 0,
             rest: 0,
             kept: 0,
         }
     }
 
-    pub fn count_refused(&mut self, answer: u8) {
-        let of_answer = &mut self.by_answer[answer as usize];
-        *of_answer = of_answer.saturating_add(1);
+    pub fn count_refused(&mut self, refusal: Refusal) {
+        let place = &mut self.by_number[refusal.number() as usize];
+        let before = place.map_or(0, |refused| refused.count);
+        *place = Some(Refused {
+            refusal,
+            count: before.saturating_add(1),
+        });
         self.refused = self.refused.saturating_add(1);
     }
 
@@ -63,16 +75,12 @@ impl Totals {
     }
 
     fn put_refused(&self, out: Stdout) {
-        for answer in 0..=u8::MAX {
-            put_refused_by(out, self.by_answer[answer as usize], answer);
+        for refused in self.by_number.iter().flatten() {
+            let count = refused.count;
+            let number = refused.refusal.number();
+            let meaning = names::of_refusal(refused.refusal);
+            let _ = println!(out; "total   {count:>10}  refused, {number}: {meaning}");
         }
-    }
-}
-
-fn put_refused_by(out: Stdout, total: u64, answer: u8) {
-    if total != 0 {
-        let meaning = names::of_answer(answer);
-        let _ = println!(out; "total   {total:>10}  refused, {answer}: {meaning}");
     }
 }
 
