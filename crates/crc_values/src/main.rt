@@ -5,13 +5,9 @@
 ghost use Rattle.std.specs.Prelude.{◌≤◌, ◌<◌, length, IfOk, IfSome};
 
 use std::io;
-use std::io::{Print, Read, Stdin, Stdout};
-use text::Page;
+use std::io::{Read, Stdin, Stdout};
 
 const ROOM: usize = 131072;
-
-// Room for a line.
-const LINE: usize = 128;
 
 // A vector of the list.
 #[derive(Clone, Copy)]
@@ -20,19 +16,12 @@ struct Vector<'a> {
     crc: u32,
 }
 
-// How many vectors were compared, and how many of them differ.
-#[derive(Clone, Copy)]
-struct Tally {
-    compared: u64,
-    differ: u64,
-}
-
 fn main(rt: HostRuntime) -> io::Result<()> {
     let out = rt.stdout();
     let mut list = [0u8; ROOM];
     let size = read_full(rt.stdin(), &mut list)?;
     if size == ROOM {
-        return out.write_all(b"The list is too long for this program.\n");
+        return println!(out; "The list is too long for this program.");
     }
     compare_all(out, &list[..size])
 }
@@ -53,21 +42,19 @@ fn read_full(mut input: Stdin, room: &mut [u8]) -> io::Result<usize>
 }
 
 fn compare_all(out: Stdout, mut list: &[u8]) -> io::Result<()> {
-    let mut tally = Tally {
-        compared: 0,
-        differ: 0,
-    };
+    let mut compared = 0u64;
+    let mut differ = 0u64;
     while let Some((vector, rest)) = split_first(list) {
-        tally.compared += 1;
-        if !agrees(out, tally.compared, vector) {
-            tally.differ += 1;
+        compared += 1;
+        if !agrees(out, compared, vector) {
+            differ += 1;
         }
         list = rest;
     }
     if !list.is_empty() {
-        out.write_all(b"The list is cut short.\n")?;
+        println!(out; "The list is cut short.")?;
     }
-    say_tally(out, tally)
+    println!(out; "{compared} compared, {differ} differ.")
 }
 
 // The list's first vector, and what is behind it; none where the list ends before the vector does.
@@ -84,43 +71,12 @@ fn split_first(list: &[u8]) -> Option<(Vector<'_>, &[u8])>
     Some((vector, rest))
 }
 
-// Whether sum32 gives what the list has; it says so where not.
+// Whether sum32 gives what the list has; it says so where not. A write that fails goes on failing, so that of the last line tells of it.
 fn agrees(out: Stdout, number: u64, vector: Vector<'_>) -> bool {
     let found = mpegts_crc::sum32(vector.bytes);
-    if found != vector.crc {
-        say_difference(out, number, found, vector.crc);
+    let listed = vector.crc;
+    if found != listed {
+        let _ = println!(out; "Vector {number}: {found:08x}, and the list has {listed:08x}.");
     }
-    found == vector.crc
-}
-
-// A write that fails goes on failing, so that of the tally tells of it.
-fn say_difference(out: Stdout, number: u64, found: u32, listed: u32) {
-    let mut room = [0u8; LINE];
-    let mut line = Page {
-        out,
-        bytes: &mut room,
-        end: 0,
-    };
-    line.put_text(b"Vector ");
-    line.put_decimal(number, 0);
-    line.put_text(b": ");
-    line.put_hexadecimal(u64::from(found), 8);
-    line.put_text(b", and the list has ");
-    line.put_hexadecimal(u64::from(listed), 8);
-    line.put_text(b".\n");
-    let _ = out.write_all(line.front());
-}
-
-fn say_tally(out: Stdout, tally: Tally) -> io::Result<()> {
-    let mut room = [0u8; LINE];
-    let mut line = Page {
-        out,
-        bytes: &mut room,
-        end: 0,
-    };
-    line.put_decimal(tally.compared, 0);
-    line.put_text(b" compared, ");
-    line.put_decimal(tally.differ, 0);
-    line.put_text(b" differ.\n");
-    out.write_all(line.front())
+    found == listed
 }

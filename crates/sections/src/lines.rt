@@ -76,18 +76,18 @@ fn put_table_header(
     header: TableSyntaxHeader,
     size: usize,
 ) -> io::Result<()> {
+    let TableSyntaxHeader {
+        id,
+        version,
+        current_next_indicator,
+        section_number,
+        last_section_number,
+    } = header;
     let table = names::of_table(table_id);
-    let id = header.id;
-    let version = header.version;
-    let when = if header.current_next_indicator {
-        "current"
-    } else {
-        "next"
-    };
-    let number = header.section_number;
-    let last = header.last_section_number;
+    let when = names::of_current_next(current_next_indicator);
     println!(out;
-        "section {packet:>10}  0x{table_id:02x} {table:<4}  {id:>5}  {version:>7}  {when:<7}  {number:>3} of {last:<3}  {size:>5}"
+        "section {packet:>10}  0x{table_id:02x} {table:<4}  {id:>5}  {version:>7}  {when:<7}  \
+         {section_number:>3} of {last_section_number:<3}  {size:>5}"
     )
 }
 
@@ -128,8 +128,8 @@ fn put_too_short(out: Stdout, TooShort { needed, actual }: TooShort) {
 
 fn put_clock(out: Stdout, map: PmtSection) -> io::Result<()> {
     let pid = map.pcr_pid;
-    let info = map.descriptors.len;
-    println!(out; "  PCR     PID {pid:>4} (0x{pid:04x})  info {info:>4} bytes")
+    let size = map.descriptors.len;
+    println!(out; "  PCR     PID {pid:>4} (0x{pid:04x})  info {size:>4} bytes")
 }
 
 fn put_programs(out: Stdout, body: &[u8]) {
@@ -218,12 +218,15 @@ fn put_program(out: Stdout, program: ProgramDescriptor) -> io::Result<()> {
 }
 
 fn put_stream(out: Stdout, stream: StreamInfo) -> io::Result<()> {
-    let pid = stream.elementary_pid;
-    let info = stream.info.len;
-    let stream_type = stream.stream_type;
+    let StreamInfo {
+        stream_type,
+        elementary_pid: pid,
+        info,
+    } = stream;
+    let size = info.len;
     let name = names::of_stream_type(stream_type);
     println!(out;
-        "  stream  PID {pid:>4} (0x{pid:04x})  info {info:>4} bytes  type 0x{stream_type:02x}  {name}"
+        "  stream  PID {pid:>4} (0x{pid:04x})  info {size:>4} bytes  type 0x{stream_type:02x}  {name}"
     )
 }
 

@@ -23,6 +23,15 @@ pub fn of_table(table_id: u8) -> &'static str {
     }
 }
 
+// Whether a table holds now.
+pub fn of_current_next(current_next_indicator: bool) -> &'static str {
+    if current_next_indicator {
+        "current"
+    } else {
+        "next"
+    }
+}
+
 pub fn of_refusal(refusal: Refusal) -> &'static str {
     match refusal {
         Refusal::PacketSize => "packet not 188 bytes",

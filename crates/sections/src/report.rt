@@ -1,6 +1,6 @@
 // What is printed of a stream as it comes, and counted.
 use crate::lines;
-use crate::totals::Totals;
+use crate::totals::{Totals, add};
 use crate::words::Words;
 use answers::Refusal;
 use std::io;
@@ -29,7 +29,7 @@ impl Report {
     pub fn skip(&mut self, bytes: u64) {
         if bytes != 0 {
             self.tell(lines::put_skipped(self.out, self.totals.packets, bytes));
-            self.totals.skipped = self.totals.skipped.saturating_add(bytes);
+            add(&mut self.totals.skipped, bytes);
         }
     }
 
@@ -46,7 +46,11 @@ impl Report {
             let _ = lines::put_bytes(self.out, section);
         }
         self.tell(written);
-        self.totals.delivered = self.totals.delivered.saturating_add(1);
+        add(&mut self.totals.delivered, 1);
+    }
+
+    pub fn put_totals(&self) -> io::Result<()> {
+        self.totals.put(self.out, self.words.pid)
     }
 
     // What was told was written, or failed to be.

@@ -4,6 +4,7 @@ ghost use Rattle.std.specs.Prelude.{◌≤◌, length};
 use crate::input;
 use crate::input::Found;
 use crate::report::Report;
+use crate::totals::add;
 use crate::words::Words;
 use answers::{Answer, Refusal};
 use packet::Packet;
@@ -74,18 +75,14 @@ impl Run {
                 self.report.skip(self.skipped);
                 self.skipped = 0;
                 self.work_packet(packet);
-                self.count_packet();
+                add(&mut self.report.totals.packets, 1);
             }
             Found::Damaged => {
                 self.report.refuse(Refusal::NoSyncByte);
-                self.count_packet();
+                add(&mut self.report.totals.packets, 1);
             }
-            Found::NoPacket => self.skipped = self.skipped.saturating_add(1),
+            Found::NoPacket => add(&mut self.skipped, 1),
         }
-    }
-
-    fn count_packet(&mut self) {
-        self.report.totals.packets = self.report.totals.packets.saturating_add(1);
     }
 
     // The reader is fed the packets of its PID.
@@ -93,7 +90,7 @@ impl Run {
         if let Ok(header) = Packet::header(packet)
             && header.pid == self.report.words.pid
         {
-            self.report.totals.of_pid = self.report.totals.of_pid.saturating_add(1);
+            add(&mut self.report.totals.of_pid, 1);
             self.both_steps(packet);
         }
     }
@@ -124,15 +121,14 @@ impl Run {
         if self.reader.is_open {
             self.report.totals.kept = u64::from(self.reader.held);
         }
+        let rest = self.rest as u64;
         if self.skipped == 0 {
-            self.report.totals.rest = self.rest as u64;
+            self.report.totals.rest = rest;
         } else {
-            self.report
-                .skip(self.skipped.saturating_add(self.rest as u64));
+            add(&mut self.skipped, rest);
+            self.report.skip(self.skipped);
         }
-        self.report
-            .totals
-            .put(self.report.out, self.report.words.pid)
+        self.report.put_totals()
     }
 }
 

@@ -11,7 +11,7 @@ struct Refused {
     count: u64,
 }
 
-// How many of each there were; a total that is full stays so.
+// How many of each there were.
 #[derive(Drop)]
 pub struct Totals {
     pub packets: u64,
@@ -41,12 +41,10 @@ impl Totals {
 
     pub fn count_refused(&mut self, refusal: Refusal) {
         let place = &mut self.by_number[refusal.number() as usize];
-        let before = place.map_or(0, |refused| refused.count);
-        *place = Some(Refused {
-            refusal,
-            count: before.saturating_add(1),
-        });
-        self.refused = self.refused.saturating_add(1);
+        let mut count = place.map_or(0, |refused| refused.count);
+        add(&mut count, 1);
+        *place = Some(Refused { refusal, count });
+        add(&mut self.refused, 1);
     }
 
     // Answers how the first lines were written.
@@ -61,16 +59,13 @@ impl Totals {
     }
 
     fn put_first(&self, out: Stdout, pid: u16) -> io::Result<()> {
-        let packets = self.packets;
-        let of_pid = self.of_pid;
-        let delivered = self.delivered;
-        let refused = self.refused;
         println!(out;
             "\n\
-             total   {packets:>10}  packets\n\
-             total   {of_pid:>10}  packets of PID {pid} (0x{pid:04x})\n\
-             total   {delivered:>10}  sections delivered\n\
-             total   {refused:>10}  refused"
+             total   {:>10}  packets\n\
+             total   {:>10}  packets of PID {pid} (0x{pid:04x})\n\
+             total   {:>10}  sections delivered\n\
+             total   {:>10}  refused",
+            self.packets, self.of_pid, self.delivered, self.refused
         )
     }
 
@@ -82,6 +77,11 @@ impl Totals {
             let _ = println!(out; "total   {count:>10}  refused, {number}: {meaning}");
         }
     }
+}
+
+// A total that is full stays so.
+pub fn add(total: &mut u64, n: u64) {
+    *total = total.saturating_add(n);
 }
 
 fn put_some(out: Stdout, total: u64, what: &str) {

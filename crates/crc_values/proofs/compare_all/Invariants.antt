@@ -3,7 +3,7 @@ use Rattle.std.proofs.Common.{◌+◌, ◌≤◌, length}
 use Rattle.crc_values.proofs.compare_all.Given as goal
 
 abbrev pub invariant-loop-vector : goal.invariant-loop-vector
-invariant-loop-vector l = (l.tally.compared + length l.list ≤ length l.fn.list) × (l.tally.differ ≤ l.tally.compared)
+invariant-loop-vector l = (l.compared + length l.list ≤ length l.fn.list) × (l.differ ≤ l.compared)
 
 abbrev pub decreases-loop-vector : goal.decreases-loop-vector
 decreases-loop-vector l = length l.list
