@@ -1,61 +1,89 @@
 // What a request leaves to the next one.
+ghost use Rattle.std.specs.Prelude.{◌≤◌};
+
+use crate::arguments::{Arguments, Fault};
 use reader::{Form, Holder, Place, Reader, Step};
 
 // The largest buffer and packet: a place's start and length are below 65,536 each.
-pub const ROOM: usize = 131072;
+const ROOM: usize = 131072;
 
-// The step that was worked last; how many bytes of the two rooms are the buffer and the packet; and where the text of the page ends.
-#[derive(Clone, Copy)]
-pub struct Kept {
-    pub step: Step,
-    pub buffer_size: usize,
-    pub packet_size: usize,
-    pub end: usize,
+// Bytes, as many as there is room for.
+#[derive(Drop)]
+pub struct Bytes {
+    pub room: [u8; ROOM],
+    pub size: usize,
+    ghost within: { size ≤ 131072 },
 }
 
-// A fresh reader, a buffer of that size, and no packet.
-pub fn anew(form: Form, buffer_size: usize, end: usize) -> Kept {
-    let place = Place {
-        holder: Holder::Nowhere,
-        start: 0,
-        len: 0,
-    };
-    let step = Step {
-        reader: Reader::fresh(form),
-        place,
-        answer: 0,
-    };
-    Kept {
-        step,
-        buffer_size,
-        packet_size: 0,
-        end,
-    }
-}
-
-impl Kept {
-    pub fn with_step(self, step: Step, end: usize) -> Kept {
-        Kept {
-            step,
-            buffer_size: self.buffer_size,
-            packet_size: self.packet_size,
-            end,
+impl Bytes {
+    fn none() -> Bytes {
+        Bytes {
+            room: [0u8; ROOM],
+            size: 0,
         }
     }
 
-    pub fn with_buffer(mut self, size: usize) -> Kept {
-        self.buffer_size = size;
-        self
+    pub fn as_slice(&self) -> &[u8] {
+        &self.room[..self.size]
     }
 
-    pub fn with_packet(mut self, size: usize, end: usize) -> Kept {
-        self.packet_size = size;
-        self.end = end;
-        self
+    pub fn set_zeros(&mut self, count: usize)
+        requires { count ≤ 131072 }
+    {
+        let room = &mut self.room[..];
+        room[..count].fill(0);
+        self.size = count;
     }
 
-    pub fn with_end(mut self, end: usize) -> Kept {
-        self.end = end;
-        self
+    // The bytes that stand there.
+    pub fn read(&mut self, arguments: &mut Arguments) -> Result<(), Fault> {
+        self.size = arguments.bytes(&mut self.room)?;
+        Ok(())
+    }
+}
+
+// The step that was worked last, and the bytes that the next one is worked on.
+#[derive(Drop)]
+pub struct Kept {
+    pub step: Step,
+    pub buffer: Bytes,
+    pub packet: Bytes,
+}
+
+impl Kept {
+    // What is kept at first.
+    pub fn nothing() -> Kept {
+        Kept {
+            step: first(Form::Compact),
+            buffer: Bytes::none(),
+            packet: Bytes::none(),
+        }
+    }
+
+    // Keeps that again.
+    pub fn clear(&mut self) {
+        self.step = first(Form::Compact);
+        self.buffer.size = 0;
+        self.packet.size = 0;
+    }
+
+    // Keeps a fresh reader of that form, and a buffer of zeros.
+    pub fn begin(&mut self, form: Form) {
+        self.step = first(form);
+        self.buffer.set_zeros(Reader::BUFFER_SIZE);
+        self.packet.size = 0;
+    }
+}
+
+// What a fresh reader leaves that was not worked.
+fn first(form: Form) -> Step {
+    Step {
+        reader: Reader::fresh(form),
+        place: Place {
+            holder: Holder::Nowhere,
+            start: 0,
+            len: 0,
+        },
+        answer: 0,
     }
 }
