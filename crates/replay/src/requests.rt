@@ -25,25 +25,28 @@ impl<'a> Session<'a> {
         self.page.write()
     }
 
-    // Puts the answer to a line, and its end. A comment is its own answer.
+    // Puts the answer to a line, and its end.
     pub fn answer_line(&mut self, line: &[u8]) {
-        if line.starts_with(b"#") {
-            self.page.put_text(line);
-        } else if let Err(fault) = self.answer(line) {
-            self.refuse(fault);
+        match self.answer(line) {
+            Ok(()) => self.page.put_text(b"\n"),
+            Err(fault) => self.refuse(fault),
         }
-        self.page.put_text(b"\n");
     }
 
     // A line that is no request is answered with what is wrong with it, and nothing is kept behind it.
     pub fn refuse(&mut self, fault: Fault) {
         self.page.put_text(b"not a request: ");
         self.page.put_text(fault.text().as_bytes());
+        self.page.put_text(b"\n");
         self.kept.clear();
     }
 
-    // Nothing is put for a line that is no request.
+    // Puts the answer to a request, and nothing where it is none. A comment is its own answer.
     fn answer(&mut self, line: &[u8]) -> Result<(), Fault> {
+        if line.starts_with(b"#") {
+            self.page.put_text(line);
+            return Ok(());
+        }
         let mut arguments = Arguments::of(line);
         let name = arguments.word().ok_or(Fault::NoCall)?;
         match name {
