@@ -109,8 +109,8 @@ impl Kept {
         let memory = reader.memory;
         let marks = memory.marks;
         let place = step.place;
-        page.put_numbers(&[
-            step.answer as u64,
+        page.put_number(step.answer as u64);
+        page.put_values(&[
             reader.form as u64,
             memory.table_id as u64,
             memory.id as u64,
@@ -142,17 +142,16 @@ impl Kept {
     // What the Rust crate shows of a step: its answer, and where a section was delivered its place and its digest.
     fn put_shown(&self, page: &mut Page) {
         let answer = self.step.answer;
-        if answer != Answer::DELIVERED {
-            return page.put_numbers(&[answer as u64]);
+        page.put_number(answer as u64);
+        if answer == Answer::DELIVERED {
+            let place = self.step.place;
+            page.put_values(&[
+                place.holder as u64,
+                place.start as u64,
+                place.len as u64,
+                line::adler32(self.section()),
+            ]);
         }
-        let place = self.step.place;
-        page.put_numbers(&[
-            answer as u64,
-            place.holder as u64,
-            place.start as u64,
-            place.len as u64,
-            line::adler32(self.section()),
-        ]);
     }
 }
 

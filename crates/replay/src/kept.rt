@@ -51,10 +51,10 @@ pub struct Kept {
 }
 
 impl Kept {
-    // What is kept at first.
+    // What is kept at first: a fresh reader of COMPACT, and no bytes.
     pub fn nothing() -> Kept {
         Kept {
-            step: first(Form::Compact),
+            step: fresh(Form::Compact),
             buffer: Bytes::none(),
             packet: Bytes::none(),
         }
@@ -62,21 +62,21 @@ impl Kept {
 
     // Keeps that again.
     pub fn clear(&mut self) {
-        self.step = first(Form::Compact);
+        self.step = fresh(Form::Compact);
         self.buffer.size = 0;
         self.packet.size = 0;
     }
 
     // Keeps a fresh reader of that form, and a buffer of zeros.
     pub fn begin(&mut self, form: Form) {
-        self.step = first(form);
+        self.step = fresh(form);
         self.buffer.set_zeros(Reader::BUFFER_SIZE);
         self.packet.size = 0;
     }
 }
 
-// What a fresh reader leaves that was not worked.
-fn first(form: Form) -> Step {
+// A fresh reader, before its first step.
+fn fresh(form: Form) -> Step {
     Step {
         reader: Reader::fresh(form),
         place: Place {

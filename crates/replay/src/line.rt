@@ -1,5 +1,10 @@
 // What an answer is made of. It is put on a page, which is written when it is full and before more requests are read.
+ghost use Rattle.std.specs.Prelude.{◌<◌, length};
+
 use answers::Refusal;
+
+pub const GIVEN: u64 = 0;
+
 use fields::word;
 use std::io;
 use std::io::{Print, Stdout};
@@ -7,17 +12,11 @@ use std::io::{Print, Stdout};
 // How many bytes the page has.
 pub const PAGE: usize = 65536;
 
-// (These methods say less than those of `text`: nothing here is proved of what is written, and each call is then proved in less time.)
+// (Its methods say less than those of `text`: nothing here is proved of what is written, and each call is then proved in less time.)
 #[derive(Drop)]
 pub struct Page<'a> {
     page: text::Page<'a>,
 }
-
-// The number of an answer that refuses nothing.
-pub const GIVEN: u64 = 0;
-
-// Adler-32's two sums are counted modulo this number, the largest prime below 65,536.
-const BASE: u64 = 65521;
 
 impl<'a> Page<'a> {
     pub fn new(out: Stdout, bytes: &'a mut [u8]) -> Page<'a> {
@@ -38,25 +37,46 @@ impl<'a> Page<'a> {
         self.page.put_text(text);
     }
 
-    // A blank stands between two numbers.
-    pub fn put_numbers(&mut self, numbers: &[u64]) {
-        for (i, number) in numbers.iter().enumerate() {
-            if i > 0 {
-                self.put_text(b" ");
-            }
-            self.page.put_decimal(*number, 1);
+    pub fn put_number(&mut self, number: u64) {
+        self.page.put_decimal(number, 1);
+    }
+
+    // Numbers, each behind a blank.
+    pub fn put_values(&mut self, values: &[u64]) {
+        for value in values {
+            self.put_text(b" ");
+            self.put_number(*value);
         }
     }
 
-    // What is not given has no values.
+    pub fn put_numbers(&mut self, numbers: &[u64])
+        requires { 0 < length numbers.now }
+    {
+        self.put_number(numbers[0]);
+        self.put_values(&numbers[1..]);
+    }
+
     pub fn put_refusal(&mut self, refusal: Refusal) {
-        self.put_numbers(&[u64::from(refusal.number())]);
+        self.put_number(u64::from(refusal.number()));
+    }
+
+    // An answer that refuses nothing, and its values.
+    pub fn put_given(&mut self, values: &[u64]) {
+        self.put_text(b"0");
+        self.put_values(values);
+    }
+
+    // A call's answer. A refusal has no values.
+    pub fn put_answer<const N: usize>(&mut self, answer: Result<[u64; N], Refusal>) {
+        match answer {
+            Ok(values) => self.put_given(&values),
+            Err(refusal) => self.put_number(u64::from(refusal.number())),
+        }
     }
 
     // How many bytes there are, and their digest.
     pub fn put_digest(&mut self, bytes: &[u8]) {
-        self.put_text(b" ");
-        self.put_numbers(&[bytes.len() as u64, adler32(bytes)]);
+        self.put_values(&[bytes.len() as u64, adler32(bytes)]);
     }
 
     // The bytes in hexadecimal, - where there are none.
@@ -71,6 +91,9 @@ impl<'a> Page<'a> {
         }
     }
 }
+
+// Adler-32's two sums are counted modulo this number, the largest prime below 65,536.
+const BASE: u64 = 65521;
 
 // The digest of RFC 1950.
 pub fn adler32(bytes: &[u8]) -> u64 {

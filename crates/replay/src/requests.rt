@@ -1,7 +1,7 @@
 // Answers a line: what it asks, and what is wrong with it where it asks nothing.
 use crate::arguments::{Arguments, Fault};
 use crate::kept::Kept;
-use crate::line::{GIVEN, Page};
+use crate::line::Page;
 use crate::{calls, gathering, packets};
 use std::io;
 
@@ -73,7 +73,7 @@ impl<'a> Session<'a> {
         let form = gathering::form(&mut arguments)?;
         arguments.end()?;
         self.kept.begin(form);
-        self.page.put_numbers(&[GIVEN]);
+        self.page.put_given(&[]);
         Ok(())
     }
 
