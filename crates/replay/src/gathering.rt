@@ -40,7 +40,7 @@ impl Kept {
                 break;
             };
             match name {
-                b"state" => self.step.reader = state(&mut arguments)?,
+                b"state" => self.reader = reader(&mut arguments)?,
                 b"place" => self.read_place(&mut arguments)?,
                 b"buffer" => self.buffer.read(&mut arguments)?,
                 b"packet" => self.packet.read(&mut arguments)?,
@@ -53,8 +53,8 @@ impl Kept {
 
     // An answer, and its place.
     fn read_place(&mut self, arguments: &mut Arguments) -> Result<(), Fault> {
-        self.step.answer = arguments.number()?;
-        self.step.place = Place {
+        self.answer = arguments.number()?;
+        self.place = Place {
             holder: holder(arguments)?,
             start: arguments.number()?,
             len: arguments.number()?,
@@ -64,34 +64,39 @@ impl Kept {
 
     // Makes the call.
     pub fn work(&mut self, call: Call) {
-        let reader = self.step.reader;
+        let reader = self.reader;
         let packet = self.packet.as_slice();
         let size = self.buffer.size;
         let room = &mut self.buffer.room[..];
         let buffer = &mut room[..size];
         match call {
-            Call::Tail => self.step = reader.tail(packet, buffer),
-            Call::Head => self.step = reader.head(packet, buffer),
-            Call::Fresh => self.step.reader = Reader::fresh(reader.form),
-            Call::None => self.step.reader.memory = Memory::none(),
+            Call::Tail => {
+                let step = reader.tail(packet, buffer);
+                self.keep(step);
+            }
+            Call::Head => {
+                let step = reader.head(packet, buffer);
+                self.keep(step);
+            }
+            Call::Fresh => self.reader = Reader::fresh(reader.form),
+            Call::None => self.reader.memory = Memory::none(),
             Call::Look => {}
         }
     }
 
     // The section that is delivered.
     fn section(&self) -> &[u8] {
-        let step = self.step;
         reader::section(
             self.packet.as_slice(),
             self.buffer.as_slice(),
-            step.answer,
-            step.place,
+            self.answer,
+            self.place,
         )
     }
 
     // Puts all that is kept.
     pub fn put(&self, shows_bytes: bool, page: &mut Page) {
-        self.put_step(page);
+        self.put_reader(page);
         let section = self.section();
         let buffer = self.buffer.as_slice();
         page.put_digest(section);
@@ -103,13 +108,12 @@ impl Kept {
     }
 
     // The answer, the state, whether it is sound, and the place.
-    fn put_step(&self, page: &mut Page) {
-        let step = self.step;
-        let reader = step.reader;
+    fn put_reader(&self, page: &mut Page) {
+        let reader = self.reader;
         let memory = reader.memory;
         let marks = memory.marks;
-        let place = step.place;
-        page.put_number(step.answer as u64);
+        let place = self.place;
+        page.put_number(self.answer as u64);
         page.put_values(&[
             reader.form as u64,
             memory.table_id as u64,
@@ -141,10 +145,10 @@ impl Kept {
 
     // What the Rust crate shows of a step: its answer, and where a section was delivered its place and its digest.
     fn put_shown(&self, page: &mut Page) {
-        let answer = self.step.answer;
+        let answer = self.answer;
         page.put_number(answer as u64);
         if answer == Answer::DELIVERED {
-            let place = self.step.place;
+            let place = self.place;
             page.put_values(&[
                 place.holder as u64,
                 place.start as u64,
@@ -156,7 +160,7 @@ impl Kept {
 }
 
 // The state that stands there.
-fn state(arguments: &mut Arguments) -> Result<Reader, Fault> {
+fn reader(arguments: &mut Arguments) -> Result<Reader, Fault> {
     Ok(Reader {
         form: form(arguments)?,
         memory: memory(arguments)?,

@@ -42,19 +42,30 @@ impl Bytes {
     }
 }
 
-// The step that was worked last, and the bytes that the next one is worked on.
+// The reader, the answer of the step that was worked last and its place, and the bytes that the next step is worked on.
 #[derive(Drop)]
 pub struct Kept {
-    pub step: Step,
+    pub reader: Reader,
+    pub answer: u8,
+    pub place: Place,
     pub buffer: Bytes,
     pub packet: Bytes,
 }
+
+// Where nothing is delivered.
+const NO_PLACE: Place = Place {
+    holder: Holder::Nowhere,
+    start: 0,
+    len: 0,
+};
 
 impl Kept {
     // What is kept at first: a fresh reader of COMPACT, and no bytes.
     pub fn nothing() -> Kept {
         Kept {
-            step: fresh(Form::Compact),
+            reader: Reader::fresh(Form::Compact),
+            answer: 0,
+            place: NO_PLACE,
             buffer: Bytes::none(),
             packet: Bytes::none(),
         }
@@ -62,28 +73,27 @@ impl Kept {
 
     // Keeps that again.
     pub fn clear(&mut self) {
-        self.step = fresh(Form::Compact);
-        self.buffer.size = 0;
-        self.packet.size = 0;
+        self.start(Form::Compact);
     }
 
     // Keeps a fresh reader of that form, and a buffer of zeros.
     pub fn begin(&mut self, form: Form) {
-        self.step = fresh(form);
+        self.start(form);
         self.buffer.set_zeros(Reader::BUFFER_SIZE);
+    }
+
+    fn start(&mut self, form: Form) {
+        self.reader = Reader::fresh(form);
+        self.answer = 0;
+        self.place = NO_PLACE;
+        self.buffer.size = 0;
         self.packet.size = 0;
     }
-}
 
-// A fresh reader, before its first step.
-fn fresh(form: Form) -> Step {
-    Step {
-        reader: Reader::fresh(form),
-        place: Place {
-            holder: Holder::Nowhere,
-            start: 0,
-            len: 0,
-        },
-        answer: 0,
+    // Keeps what a step leaves.
+    pub fn keep(&mut self, step: Step) {
+        self.reader = step.reader;
+        self.answer = step.answer;
+        self.place = step.place;
     }
 }
