@@ -66,6 +66,7 @@ impl Kept {
     pub fn work(&mut self, call: Call) {
         let reader = self.reader;
         let packet = self.packet.as_slice();
+        // By its fields: a method that lends a part of the room to be written gets no proof beside the ghost field.
         let size = self.buffer.size;
         let room = &mut self.buffer.room[..];
         let buffer = &mut room[..size];
