@@ -6,6 +6,7 @@ use mathlib.Core.List.{List}
 use native.Mathlib.Omega.{arith}
 use borrow.Author.Tests.{eqb-true, ltb-false, not-false}
 use lib.ListN.{length, take, drop}
+use Rattle.std.specs.Prelude.{Result, Ok, Err}
 use Rattle.fields.specs.Choice.{when◌then◌else◌, ◌and◌, ◌is◌, ◌is_not◌, ◌is_above◌}
 use Rattle.answers.specs.Says.{Says, given, refused}
 use Rattle.answers.specs.Refusals.{number_of}
@@ -16,7 +17,6 @@ use Rattle.packet.specs.Payload.{control_of, length_byte}
 use Rattle.adaptation.specs.AdaptationField.{start, bytes_of, flags_of, no_field, where_present}
 use Rattle.adaptation.specs.AdaptationField.{adaptation_field_says, of_a_field, adaptation_field_of}
 use Rattle.adaptation.specs.declared.AdaptationField.{AdaptationField}
-use Rattle.adaptation.specs.declared.AdaptationFieldAnswer.{AdaptationFieldAnswer}
 
 -- what holds of both choices that one test makes
 each : {A B : Type 0} (P : A → B → Type 0) (t : Bool) {a a' : A} {b b' : B}
@@ -51,7 +51,7 @@ module _ {Values : Type 0} (packet : List ℕ) (none : Values) (asked : Adaptati
       let whole = eqb-true (length packet) size (not-false _ sized) in both (omega arith)))))))
 
   -- where the field's answer is a field, every call on it is told of its flags and its bytes
-  pub told_of_a_field : {answer : AdaptationFieldAnswer} {flags : AdaptationField} → answer ≡ AdaptationFieldAnswer.Is flags
+  pub told_of_a_field : {answer : Result AdaptationField Refusal} {flags : AdaptationField} → answer ≡ Ok flags
       → adaptation_field_says answer ≡ adaptation_field_of packet
       → of_a_field packet none asked ≡ asked flags (take flags.adaptation_field_length (drop start packet))
   unfolding flags_of
@@ -63,7 +63,7 @@ module _ {Values : Type 0} (packet : List ℕ) (none : Values) (asked : Adaptati
       (sym (ap adaptation_field_says known) ∙ said)
 
   -- where it is a refusal, every call on the field is refused with its number
-  pub refused_as_its_field : {answer : AdaptationFieldAnswer} {refusal : Refusal} → answer ≡ AdaptationFieldAnswer.Refused refusal
+  pub refused_as_its_field : {answer : Result AdaptationField Refusal} {refusal : Refusal} → answer ≡ Err refusal
       → adaptation_field_says answer ≡ adaptation_field_of packet → of_a_field packet none asked ≡ refused (number_of refusal) none
   refused_as_its_field {refusal} known said =
       alike
@@ -73,8 +73,8 @@ module _ {Values : Type 0} (packet : List ℕ) (none : Values) (asked : Adaptati
       (sym (ap adaptation_field_says known) ∙ said)
 
 -- where it is a field, the field lies within its packet
-pub within_its_packet : (packet : List ℕ) {answer : AdaptationFieldAnswer} {flags : AdaptationField}
-    → answer ≡ AdaptationFieldAnswer.Is flags → adaptation_field_says answer ≡ adaptation_field_of packet
+pub within_its_packet : (packet : List ℕ) {answer : Result AdaptationField Refusal} {flags : AdaptationField}
+    → answer ≡ Ok flags → adaptation_field_says answer ≡ adaptation_field_of packet
     → start + flags.adaptation_field_length ≤ length packet
 unfolding flags_of
 within_its_packet packet {flags} known said =

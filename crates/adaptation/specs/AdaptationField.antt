@@ -1,15 +1,14 @@
 -- The adaptation field and its flags: document 01, "Bytes of a packet".
-use Rattle.std.specs.Prelude.{ℕ, false, List, take, drop}
+use Rattle.std.specs.Prelude.{ℕ, false, List, take, drop, Result}
 use Rattle.fields.specs.Choice.{when◌then◌else◌, ◌and◌, ◌is◌, ◌is_not◌, ◌is_above◌}
 use Rattle.fields.specs.SyntaxTable.{field}
 use Rattle.answers.specs.Numbers.{no_adaptation_field, adaptation_field_length}
-use Rattle.answers.specs.Says.{Says, given, refused}
-use Rattle.answers.specs.Refusals.{number_of}
+use Rattle.answers.specs.Says.{Says, given, refused, says}
+use Rattle.answers.specs.declared.Refusal.{Refusal}
 use Rattle.packet.specs.Header.{of_a_packet}
 use Rattle.packet.specs.Payload.{control_of, length_byte}
 use Rattle.adaptation.specs.Syntax.{adaptation_field_flags}
 use Rattle.adaptation.specs.declared.AdaptationField.{AdaptationField}
-use Rattle.adaptation.specs.declared.AdaptationFieldAnswer.{AdaptationFieldAnswer}
 
 -- "The field begins at byte 5"
 abbrev pub start : ℕ
@@ -50,10 +49,9 @@ no_field =
       adaptation_field_extension_flag = false;
     }
 
--- the number and the values of each case of the answer
-abbrev pub adaptation_field_says : AdaptationFieldAnswer → Says AdaptationField
-adaptation_field_says (AdaptationFieldAnswer.Is flags) = given flags
-adaptation_field_says (AdaptationFieldAnswer.Refused refusal) = refused (number_of refusal) no_field
+-- the number and the values of the answer
+abbrev pub adaptation_field_says : Result AdaptationField Refusal → Says AdaptationField
+adaptation_field_says answer = says no_field answer
 
 -- "Control 00 has neither part, 01 payload only"; "with 10 its length byte must be 183; with 11 it is 0 (absent), 1 to 182, or refused": what is
 -- said of a field once there is one, by the adaptation field control and the length byte

@@ -10,7 +10,7 @@ ghost use Rattle.adaptation.specs.AdaptationField.{adaptation_field_says, adapta
 
 use answers::Refusal;
 use fields::word;
-use packet::{HeaderAnswer, Packet};
+use packet::Packet;
 
 // The field's length and its flags, the last five of which tell what follows them.
 #[derive(Clone, Copy)]
@@ -24,13 +24,6 @@ pub struct AdaptationField {
     pub splicing_point_flag: bool,
     pub transport_private_data_flag: bool,
     pub adaptation_field_extension_flag: bool,
-}
-
-// The field, or 3, 4, 18, 19.
-#[derive(Clone, Copy)]
-pub enum AdaptationFieldAnswer {
-    Is(AdaptationField),
-    Refused(Refusal),
 }
 
 // The field of a packet that has one, of n bytes.
@@ -53,42 +46,28 @@ fn flags_of(packet: &[u8], n: u8) -> AdaptationField
 }
 
 // The field of a packet with this adaptation field control and this length byte.
-fn field_behind(packet: &[u8], control: u8, n: u8) -> AdaptationFieldAnswer
+fn field_behind(packet: &[u8], control: u8, n: u8) -> Result<AdaptationField, Refusal>
     requires { (length packet.now ≡ size) × (n ≡ length_byte packet.now) }
     ensures { adaptation_field_says result ≡ where_present control n no_field (given (flags_of packet.now)) }
 {
-    if control == 0b10 {
-        if n == 183 {
-            return AdaptationFieldAnswer::Is(flags_of(packet, n));
-        }
-        return AdaptationFieldAnswer::Refused(Refusal::AdaptationFieldLength);
+    match (control, n) {
+        (0b10, 183) | (0b11, 1..=182) => Ok(flags_of(packet, n)),
+        (0b11, 0) => Err(Refusal::NoAdaptationField),
+        (0b10 | 0b11, _) => Err(Refusal::AdaptationFieldLength),
+        _ => Err(Refusal::NoAdaptationField),
     }
-    if control == 0b11 {
-        if n == 0 {
-            return AdaptationFieldAnswer::Refused(Refusal::NoAdaptationField);
-        }
-        if n <= 182 {
-            return AdaptationFieldAnswer::Is(flags_of(packet, n));
-        }
-        return AdaptationFieldAnswer::Refused(Refusal::AdaptationFieldLength);
-    }
-    AdaptationFieldAnswer::Refused(Refusal::NoAdaptationField)
 }
 
 impl AdaptationField {
     // Where the field begins in its packet: behind its length byte.
     pub const OFFSET: usize = 5;
 
-    pub fn of(packet: &[u8]) -> AdaptationFieldAnswer
+    // The field, or 3, 4, 18, 19.
+    pub fn of(packet: &[u8]) -> Result<AdaptationField, Refusal>
         ensures { adaptation_field_says result ≡ adaptation_field_of packet.now }
     {
-        match Packet::header(packet) {
-            HeaderAnswer::Is(header) => field_behind(
-                packet,
-                header.adaptation_field_control,
-                (word(packet, 4, 1) % 256) as u8,
-            ),
-            HeaderAnswer::Refused(refusal) => AdaptationFieldAnswer::Refused(refusal),
-        }
+        let header = Packet::header(packet)?;
+        let length = (word(packet, 4, 1) % 256) as u8;
+        field_behind(packet, header.adaptation_field_control, length)
     }
 }

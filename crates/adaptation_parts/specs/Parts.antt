@@ -1,19 +1,16 @@
 -- The parts of an adaptation field: document 01, "Present parts follow in that order".
-use Rattle.std.specs.Prelude.{ℕ, ◌+◌, ◌*◌, Bool, not, List, length}
+use Rattle.std.specs.Prelude.{ℕ, ◌+◌, ◌*◌, Bool, not, List, length, Result}
 use Rattle.fields.specs.Choice.{when◌then◌else◌, ◌is_below◌}
 use Rattle.fields.specs.SyntaxTable.{Table, size, field}
 use Rattle.answers.specs.Numbers.{flag_clear, field_ends_before}
-use Rattle.answers.specs.Says.{Says, given, refused}
-use Rattle.answers.specs.Refusals.{number_of}
+use Rattle.answers.specs.Says.{Says, given, refused, says}
+use Rattle.answers.specs.declared.Refusal.{Refusal}
 use Rattle.adaptation_parts.specs.Syntax.{program_clock_reference, original_program_clock_reference, splice_countdown}
 use Rattle.adaptation_parts.specs.Syntax.{transport_private_data_length, transport_private_data, size_in_bytes, bytes_behind}
 use Rattle.adaptation_parts.specs.Syntax.{before_pcr, before_opcr, before_splice_countdown, before_transport_private_data}
 use Rattle.adaptation.specs.AdaptationField.{start, of_a_field}
 use Rattle.adaptation_parts.specs.declared.ClockRef.{ClockRef}
-use Rattle.adaptation_parts.specs.declared.ClockAnswer.{ClockAnswer}
-use Rattle.adaptation_parts.specs.declared.SpliceCountdown.{SpliceCountdown}
 use Rattle.adaptation_parts.specs.declared.PrivateData.{PrivateData}
-use Rattle.adaptation_parts.specs.declared.TransportPrivateData.{TransportPrivateData}
 
 -- "optional part's flag clear", then "field ends before the part does": what is read of a part from its first byte on
 unfoldable pub part : {Values : Type 0} → Bool → Table → List ℕ → Values → (List ℕ → Values) → Says Values
@@ -28,10 +25,9 @@ part flag rows bytes none read =
 abbrev pub no_clock : ClockRef
 no_clock = record { base = 0; extension = 0 }
 
--- the number and the values of each case of the answer
-abbrev pub clock_says : ClockAnswer → Says ClockRef
-clock_says (ClockAnswer.Is clock) = given clock
-clock_says (ClockAnswer.Refused refusal) = refused (number_of refusal) no_clock
+-- the number and the values of the answer
+abbrev pub clock_says : Result ClockRef Refusal → Says ClockRef
+clock_says answer = says no_clock answer
 
 -- "A PCR is a 33-bit base, six reserved bits, a 9-bit extension"
 abbrev pub pcr_from : List ℕ → ClockRef
@@ -61,10 +57,9 @@ opcr_of packet =
 
 -- ---- splice countdown
 
--- the number and the value of each case of the answer
-abbrev pub splice_countdown_says : SpliceCountdown → Says ℕ
-splice_countdown_says (SpliceCountdown.Is countdown) = given countdown
-splice_countdown_says (SpliceCountdown.Refused refusal) = refused (number_of refusal) 0
+-- the number and the value of the answer
+abbrev pub splice_countdown_says : Result ℕ Refusal → Says ℕ
+splice_countdown_says answer = says 0 answer
 
 -- "splice countdown 1 (its byte value, 0 to 255)"
 abbrev pub splice_countdown_from : List ℕ → ℕ
@@ -82,10 +77,9 @@ splice_countdown_of packet =
 abbrev pub no_private_data : PrivateData
 no_private_data = record { start = 0; length = 0 }
 
--- the number and the values of each case of the answer
-abbrev pub transport_private_data_says : TransportPrivateData → Says PrivateData
-transport_private_data_says (TransportPrivateData.At place) = given place
-transport_private_data_says (TransportPrivateData.Refused refusal) = refused (number_of refusal) no_private_data
+-- the number and the values of the answer
+abbrev pub transport_private_data_says : Result PrivateData Refusal → Says PrivateData
+transport_private_data_says answer = says no_private_data answer
 
 -- "private data a length byte and that many bytes": the place of these, where the length byte is byte `at` of the packet
 abbrev pub private_data_from : ℕ → List ℕ → PrivateData

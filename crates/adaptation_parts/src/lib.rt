@@ -10,7 +10,7 @@ ghost use Rattle.adaptation_parts.specs.Parts.{part, no_clock, pcr_from, clock_s
 ghost use Rattle.adaptation_parts.specs.Parts.{splice_countdown_from, splice_countdown_says, splice_countdown_of};
 ghost use Rattle.adaptation_parts.specs.Parts.{private_data_at, transport_private_data_says, transport_private_data_of};
 
-use adaptation::{AdaptationField, AdaptationFieldAnswer};
+use adaptation::AdaptationField;
 use answers::Refusal;
 use fields::word;
 
@@ -33,27 +33,6 @@ pub struct PrivateData {
     pub length: usize,
 }
 
-// A PCR or an OPCR, or 3, 4, 18, 19, 20, 21.
-#[derive(Clone, Copy)]
-pub enum ClockAnswer {
-    Is(ClockRef),
-    Refused(Refusal),
-}
-
-// The countdown's byte, or 3, 4, 18, 19, 20, 21.
-#[derive(Clone, Copy)]
-pub enum SpliceCountdown {
-    Is(u8),
-    Refused(Refusal),
-}
-
-// The private data's place, or 3, 4, 18, 19, 20, 21.
-#[derive(Clone, Copy)]
-pub enum TransportPrivateData {
-    At(PrivateData),
-    Refused(Refusal),
-}
-
 // The n bytes of the field.
 fn bytes_of(packet: &[u8], n: u8) -> &[u8]
     requires { start + n ≤ length packet.now }
@@ -71,106 +50,93 @@ fn behind(pcr: bool, opcr: bool, countdown: bool) -> usize
 }
 
 // The PCR or OPCR at `at` of the field. (An OPCR's rows are a PCR's, under names of its own.)
-fn clock_at(field: &[u8], flag: bool, at: usize) -> ClockAnswer
+fn clock_at(field: &[u8], flag: bool, at: usize) -> Result<ClockRef, Refusal>
     requires { at < size }
     ensures { clock_says result ≡ part flag program_clock_reference (drop at field.now) no_clock pcr_from }
 {
     if !flag {
-        return ClockAnswer::Refused(Refusal::FlagClear);
+        return Err(Refusal::FlagClear);
     }
     if field.len() < at + PCR_SIZE {
-        return ClockAnswer::Refused(Refusal::FieldEndsBefore);
+        return Err(Refusal::FieldEndsBefore);
     }
     let bits = word(field, at, PCR_SIZE);
-    ClockAnswer::Is(ClockRef {
+    Ok(ClockRef {
         base: (bits >> 15) % 0x2_0000_0000,
         extension: (bits % 512) as u16,
     })
 }
 
 // The splice countdown at `at` of the field.
-fn splice_countdown_at(field: &[u8], flag: bool, at: usize) -> SpliceCountdown
+fn splice_countdown_at(field: &[u8], flag: bool, at: usize) -> Result<u8, Refusal>
     requires { at < size }
     ensures { splice_countdown_says result ≡ part flag splice_countdown (drop at field.now) 0 splice_countdown_from }
 {
-    if !flag {
-        return SpliceCountdown::Refused(Refusal::FlagClear);
+    if flag {
+        if at < field.len() {
+            return Ok(field[at]);
+        }
+        return Err(Refusal::FieldEndsBefore);
     }
-    if field.len() < at + 1 {
-        return SpliceCountdown::Refused(Refusal::FieldEndsBefore);
-    }
-    SpliceCountdown::Is(field[at])
+    Err(Refusal::FlagClear)
 }
 
 // The private data whose length byte is at `at` of the field.
-fn private_data_at(field: &[u8], flag: bool, at: usize) -> TransportPrivateData
+fn private_data_at(field: &[u8], flag: bool, at: usize) -> Result<PrivateData, Refusal>
     requires { at < size }
     ensures { transport_private_data_says result ≡ private_data_at flag (start + at) (drop at field.now) }
 {
     if !flag {
-        return TransportPrivateData::Refused(Refusal::FlagClear);
+        return Err(Refusal::FlagClear);
     }
     if field.len() < at + 1 {
-        return TransportPrivateData::Refused(Refusal::FieldEndsBefore);
+        return Err(Refusal::FieldEndsBefore);
     }
     let n = field[at] as usize;
     if field.len() < at + 1 + n {
-        return TransportPrivateData::Refused(Refusal::FieldEndsBefore);
+        return Err(Refusal::FieldEndsBefore);
     }
-    TransportPrivateData::At(PrivateData {
+    Ok(PrivateData {
         start: AdaptationField::OFFSET + at + 1,
         length: n,
     })
 }
 
-pub fn pcr(packet: &[u8]) -> ClockAnswer
+// The PCR, or 3, 4, 18, 19, 20, 21.
+pub fn pcr(packet: &[u8]) -> Result<ClockRef, Refusal>
     ensures { clock_says result ≡ pcr_of packet.now }
 {
-    match AdaptationField::of(packet) {
-        AdaptationFieldAnswer::Is(field) => clock_at(
-            bytes_of(packet, field.adaptation_field_length),
-            field.pcr_flag,
-            PCR_OFFSET,
-        ),
-        AdaptationFieldAnswer::Refused(refusal) => ClockAnswer::Refused(refusal),
-    }
+    let field = AdaptationField::of(packet)?;
+    let bytes = bytes_of(packet, field.adaptation_field_length);
+    clock_at(bytes, field.pcr_flag, PCR_OFFSET)
 }
 
-pub fn opcr(packet: &[u8]) -> ClockAnswer
+// The OPCR, or 3, 4, 18, 19, 20, 21.
+pub fn opcr(packet: &[u8]) -> Result<ClockRef, Refusal>
     ensures { clock_says result ≡ opcr_of packet.now }
 {
-    match AdaptationField::of(packet) {
-        AdaptationFieldAnswer::Is(field) => clock_at(
-            bytes_of(packet, field.adaptation_field_length),
-            field.opcr_flag,
-            behind(field.pcr_flag, false, false),
-        ),
-        AdaptationFieldAnswer::Refused(refusal) => ClockAnswer::Refused(refusal),
-    }
+    let field = AdaptationField::of(packet)?;
+    let bytes = bytes_of(packet, field.adaptation_field_length);
+    let at = behind(field.pcr_flag, false, false);
+    clock_at(bytes, field.opcr_flag, at)
 }
 
-pub fn splice_countdown(packet: &[u8]) -> SpliceCountdown
+// The countdown's byte, or 3, 4, 18, 19, 20, 21.
+pub fn splice_countdown(packet: &[u8]) -> Result<u8, Refusal>
     ensures { splice_countdown_says result ≡ splice_countdown_of packet.now }
 {
-    match AdaptationField::of(packet) {
-        AdaptationFieldAnswer::Is(field) => splice_countdown_at(
-            bytes_of(packet, field.adaptation_field_length),
-            field.splicing_point_flag,
-            behind(field.pcr_flag, field.opcr_flag, false),
-        ),
-        AdaptationFieldAnswer::Refused(refusal) => SpliceCountdown::Refused(refusal),
-    }
+    let field = AdaptationField::of(packet)?;
+    let bytes = bytes_of(packet, field.adaptation_field_length);
+    let at = behind(field.pcr_flag, field.opcr_flag, false);
+    splice_countdown_at(bytes, field.splicing_point_flag, at)
 }
 
-pub fn transport_private_data(packet: &[u8]) -> TransportPrivateData
+// The private data's place, or 3, 4, 18, 19, 20, 21.
+pub fn transport_private_data(packet: &[u8]) -> Result<PrivateData, Refusal>
     ensures { transport_private_data_says result ≡ transport_private_data_of packet.now }
 {
-    match AdaptationField::of(packet) {
-        AdaptationFieldAnswer::Is(field) => private_data_at(
-            bytes_of(packet, field.adaptation_field_length),
-            field.transport_private_data_flag,
-            behind(field.pcr_flag, field.opcr_flag, field.splicing_point_flag),
-        ),
-        AdaptationFieldAnswer::Refused(refusal) => TransportPrivateData::Refused(refusal),
-    }
+    let field = AdaptationField::of(packet)?;
+    let bytes = bytes_of(packet, field.adaptation_field_length);
+    let at = behind(field.pcr_flag, field.opcr_flag, field.splicing_point_flag);
+    private_data_at(bytes, field.transport_private_data_flag, at)
 }

@@ -4,7 +4,7 @@ use mathlib.Core.Path.{◌≡◌, refl, sym, ap, ◌∙◌}
 use native.Mathlib.Omega.{arith}
 use Rattle.fields.specs.Choice.{when◌then◌else◌, ◌is◌}
 use Rattle.answers.specs.declared.Refusal.{Refusal}
-use Rattle.answers.specs.declared.Refusal.TheVariants.{PacketSize, NoSyncByte, BufferSize, NoPayload, PayloadEmpty, PayloadBeyond, Under3Bytes, Under8Bytes, SectionUnder12, NoAdaptationField, AdaptationFieldLength, FlagClear, FieldEndsBefore, WalkAtEnd, StateNotSound, PositionAboveLength}
+use Rattle.answers.specs.declared.Refusal.TheVariants.{PacketSize, NoSyncByte, BufferSize, NoPayload, PayloadEmpty, PayloadBeyond, PointerBeyondRest, Under3Bytes, SyntaxIndicator, Under8Bytes, LengthAbove1021, AlreadyDelivered, NoSectionOpen, SectionUnder12, CrcNotZero, NoAdaptationField, AdaptationFieldLength, FlagClear, FieldEndsBefore, WalkAtEnd, StateNotSound, PositionAboveLength}
 use Rattle.answers.specs.Refusals.{number_of}
 
 -- the refusal of a number
@@ -16,9 +16,15 @@ numbered n =
     else when n is 6 then NoPayload
     else when n is 7 then PayloadEmpty
     else when n is 8 then PayloadBeyond
+    else when n is 9 then PointerBeyondRest
     else when n is 10 then Under3Bytes
+    else when n is 11 then SyntaxIndicator
     else when n is 12 then Under8Bytes
+    else when n is 13 then LengthAbove1021
+    else when n is 14 then AlreadyDelivered
+    else when n is 15 then NoSectionOpen
     else when n is 16 then SectionUnder12
+    else when n is 17 then CrcNotZero
     else when n is 18 then NoAdaptationField
     else when n is 19 then AdaptationFieldLength
     else when n is 20 then FlagClear
@@ -35,9 +41,15 @@ numbered_number BufferSize = refl
 numbered_number NoPayload = refl
 numbered_number PayloadEmpty = refl
 numbered_number PayloadBeyond = refl
+numbered_number PointerBeyondRest = refl
 numbered_number Under3Bytes = refl
+numbered_number SyntaxIndicator = refl
 numbered_number Under8Bytes = refl
+numbered_number LengthAbove1021 = refl
+numbered_number AlreadyDelivered = refl
+numbered_number NoSectionOpen = refl
 numbered_number SectionUnder12 = refl
+numbered_number CrcNotZero = refl
 numbered_number NoAdaptationField = refl
 numbered_number AdaptationFieldLength = refl
 numbered_number FlagClear = refl
@@ -58,6 +70,15 @@ no_refusals_number n other r e = other (ap number_of (sym (ap numbered e) ∙ nu
 pub no_refusal_is_0 : (r : Refusal) → number_of r ≡ 0 → ⊥
 unfolding numbered when◌then◌else◌
 no_refusal_is_0 = no_refusals_number 0 (λ (e : ◌≡◌ {A = ℕ} 26 0). omega arith)
+
+-- 1, which keeps bytes, and 2, which delivers
+pub no_refusal_is_1 : (r : Refusal) → number_of r ≡ 1 → ⊥
+unfolding numbered when◌then◌else◌
+no_refusal_is_1 = no_refusals_number 1 (λ (e : ◌≡◌ {A = ℕ} 26 1). omega arith)
+
+pub no_refusal_is_2 : (r : Refusal) → number_of r ≡ 2 → ⊥
+unfolding numbered when◌then◌else◌
+no_refusal_is_2 = no_refusals_number 2 (λ (e : ◌≡◌ {A = ℕ} 26 2). omega arith)
 
 -- and the numbers of the rows that tell where a walk stopped
 pub no_refusal_is_24 : (r : Refusal) → number_of r ≡ 24 → ⊥

@@ -17,7 +17,7 @@ use Rattle.memory_words.proofs.Words.{InRange, words_remember, not_five_stay}
 use Rattle.delivered.specs.declared.Place.{Place}
 use Rattle.reader.specs.declared.Reader.{Reader}
 use Rattle.reader.specs.declared.Gathering.{Gathering}
-use Rattle.reader.specs.declared.GatheringStep.{GatheringStep}
+use Rattle.reader.specs.Gathering.{GatheringStep}
 use Rattle.reader.specs.Outcome.{Outcome}
 use Rattle.reader.specs.Gathering.{with_memory, Gathered, gathered, gathered_of}
 use Rattle.reader.specs.Tail.{tail_of}

@@ -7,9 +7,9 @@ use Rattle.gathering_rules.specs.Checks.{checked}
 use Rattle.delivered.specs.declared.Holder.{Holder}
 use Rattle.delivered.specs.declared.Place.{Place}
 use Rattle.reader.specs.declared.Reader.{Reader}
-use Rattle.reader.specs.declared.Step.{Step}
+use Rattle.reader.specs.Outcome.{Step}
 use Rattle.reader.specs.declared.Gathering.{Gathering}
-use Rattle.reader.specs.declared.GatheringStep.{GatheringStep}
+use Rattle.reader.specs.Gathering.{GatheringStep}
 use Rattle.reader.specs.State.{gathering_of, sound}
 use Rattle.reader.specs.Gathering.{with_memory, without_memory}
 use Rattle.reader.specs.Outcome.{Outcome, nowhere}

@@ -42,9 +42,10 @@ left_to_last false false false last none = refl
 
 module _ (form : Form) (memory : Memory) (bytes : List ℕ) where
   pub start_without_header : (refusal : Refusal) → refused (number_of refusal) no_header ≡ header_of bytes
-      → start_refusal form memory bytes ≡ under3_bytes
+      → start_refusal form memory bytes ≡ number_of refusal
   unfolding start_refusal
-  start_without_header refusal e = test_holds _ _ _ (lt-ltb _ _ (header_refused bytes refusal e).0)
+  start_without_header refusal e =
+      let refused_so = header_refused bytes refusal e in test_holds _ _ _ (lt-ltb _ _ refused_so.0) ∙ sym (ap number_of refused_so.1)
 
   -- the header, where there is one, and then what is remembered
   start_with_header : (header : SectionCommonHeader) → given header ≡ header_of bytes

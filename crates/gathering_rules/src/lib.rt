@@ -3,19 +3,20 @@
 #![tactic(auto)]
 
 ghost use Rattle.std.specs.Prelude.{◌≡◌, ◌≤◌};
+ghost use Rattle.answers.specs.Says.{answer_number};
 ghost use Rattle.memory.specs.declared.Form.{Form};
 ghost use Rattle.packet.specs.Payload.{payload_says};
 ghost use Rattle.memory_words.specs.Words.{memory_in};
 ghost use Rattle.gathering_rules.specs.Checks.{checked};
 ghost use Rattle.gathering_rules.specs.Start.{least_held, length_refusal, header_refusal, start_refusal};
-ghost use Rattle.gathering_rules.specs.Verdict.{crc_verdict, verdict};
+ghost use Rattle.gathering_rules.specs.Verdict.{crc_verdict, verdict, verdict_number};
 
-use answers::{Answer, Refusal};
+use answers::Refusal;
 use memory::Form;
 use memory_words::repeats;
 use mpegts_crc::sum32;
-use packet::{Packet, Payload};
-use psi::{HeaderAnswer, Section, SectionCommonHeader};
+use packet::Packet;
+use psi::{Section, SectionCommonHeader};
 
 // The buffer that a host lends.
 #[derive(Drop)]
@@ -26,21 +27,17 @@ impl Buffer {
 }
 
 // What every step tests first: the payload's place, or 3, 4, 5, 25, 6, 7, 8.
-pub fn checked(is_sound: bool, packet: &[u8], buffer: usize) -> Payload
+pub fn checked(is_sound: bool, packet: &[u8], buffer: usize) -> Result<usize, Refusal>
     ensures { payload_says result ≡ checked is_sound packet.now buffer }
 {
-    match Packet::header(packet) {
-        packet::HeaderAnswer::Is(_) => {
-            if buffer != Buffer::SIZE {
-                return Payload::Refused(Refusal::BufferSize);
-            }
-            if !is_sound {
-                return Payload::Refused(Refusal::StateNotSound);
-            }
-            Packet::payload(packet)
-        }
-        packet::HeaderAnswer::Refused(refusal) => Payload::Refused(refusal),
+    Packet::header(packet)?;
+    if buffer != Buffer::SIZE {
+        return Err(Refusal::BufferSize);
     }
+    if !is_sound {
+        return Err(Refusal::StateNotSound);
+    }
+    Packet::payload(packet)
 }
 
 // The bytes without which a section is not kept.
@@ -49,88 +46,81 @@ pub fn least_held(form: Form) -> u16
 {
     match form {
         Form::Compact => 3,
-        Form::Full => 8,
-        Form::Once => 8,
+        Form::Full | Form::Once => 8,
     }
 }
 
-// 13, or 0.
-fn length_refusal(header: SectionCommonHeader) -> u8
-    ensures { result ≡ length_refusal header }
+// 13, or nothing.
+fn test_length(header: SectionCommonHeader) -> Result<(), Refusal>
+    ensures { answer_number result ≡ length_refusal header }
 {
     if Section::LENGTH_LIMIT < header.section_length {
-        return Answer::LENGTH_ABOVE_1021;
+        return Err(Refusal::LengthAbove1021);
     }
-    0
+    Ok(())
 }
 
-// What the header of so many bytes refuses in FULL and ONCE: 11, 12, 13, or 0.
-fn long_refusal(header: SectionCommonHeader, len: usize) -> u8
-    ensures { result ≡ header_refusal Form.Full header len }
+// What the header of so many bytes refuses in FULL and ONCE: 11, 12, 13, or nothing.
+fn test_long_header(header: SectionCommonHeader, len: usize) -> Result<(), Refusal>
+    ensures { answer_number result ≡ header_refusal Form.Full header len }
 {
     if !header.section_syntax_indicator {
-        return Answer::SYNTAX_INDICATOR;
+        return Err(Refusal::SyntaxIndicator);
     }
     if len < Section::HEADERS_SIZE {
-        return Answer::UNDER_8_BYTES;
+        return Err(Refusal::Under8Bytes);
     }
-    length_refusal(header)
+    test_length(header)
 }
 
 // What it refuses in any form. (An arm a form, so that the compiler asks for the form once.)
-fn header_refusal(form: Form, header: SectionCommonHeader, len: usize) -> u8
+fn test_header(form: Form, header: SectionCommonHeader, len: usize) -> Result<(), Refusal>
     requires { 3 ≤ len }
-    ensures { result ≡ header_refusal form header len }
+    ensures { answer_number result ≡ header_refusal form header len }
 {
     match form {
         Form::Compact => {
             if header.section_syntax_indicator {
-                return Answer::SYNTAX_INDICATOR;
+                return Err(Refusal::SyntaxIndicator);
             }
-            length_refusal(header)
+            test_length(header)
         }
-        Form::Full => long_refusal(header, len),
-        Form::Once => long_refusal(header, len),
+        Form::Full => test_long_header(header, len),
+        Form::Once => test_long_header(header, len),
     }
 }
 
-// 10 to 14, or 0 where a section starts with these bytes. What is remembered is lent as words.
-pub fn start_refusal(form: Form, memory: &[u64], bytes: &[u8]) -> u8
-    ensures { result ≡ start_refusal form (memory_in memory.now) bytes.now }
+// 10 to 14, or nothing where a section starts with these bytes. What is remembered is lent as words.
+pub fn test_start(form: Form, memory: &[u64], bytes: &[u8]) -> Result<(), Refusal>
+    ensures { answer_number result ≡ start_refusal form (memory_in memory.now) bytes.now }
 {
-    let HeaderAnswer::Is(header) = Section::header(bytes) else {
-        return Answer::UNDER_3_BYTES;
-    };
-    let refusal = header_refusal(form, header, bytes.len());
-    if refusal != 0 {
-        return refusal;
-    }
+    let header = Section::header(bytes)?;
+    test_header(form, header, bytes.len())?;
     if repeats(memory, form, bytes) {
-        return Answer::ALREADY_DELIVERED;
+        return Err(Refusal::AlreadyDelivered);
     }
-    0
+    Ok(())
 }
 
-// 2, or why a whole section is refused: 16, 17.
-fn crc_verdict(section: &[u8]) -> u8
-    ensures { result ≡ crc_verdict section.now }
+// Why a section whose CRC is tested is refused as a whole: 16, 17, or nothing.
+fn test_crc(section: &[u8]) -> Result<(), Refusal>
+    ensures { verdict_number result ≡ crc_verdict section.now }
 {
     if section.len() < 12 {
-        return Answer::SECTION_UNDER_12;
+        return Err(Refusal::SectionUnder12);
     }
     if sum32(section) != 0 {
-        return Answer::CRC_NOT_ZERO;
+        return Err(Refusal::CrcNotZero);
     }
-    Answer::DELIVERED
+    Ok(())
 }
 
-// The answer to a whole section: 2, 16, 17.
-pub fn verdict(form: Form, section: &[u8]) -> u8
-    ensures { result ≡ verdict form section.now }
+// Why a whole section is refused: 16, 17, or nothing where it is delivered.
+pub fn verdict(form: Form, section: &[u8]) -> Result<(), Refusal>
+    ensures { verdict_number result ≡ verdict form section.now }
 {
     match form {
-        Form::Compact => Answer::DELIVERED,
-        Form::Full => crc_verdict(section),
-        Form::Once => crc_verdict(section),
+        Form::Compact => Ok(()),
+        Form::Full | Form::Once => test_crc(section),
     }
 }

@@ -11,7 +11,7 @@ use Rattle.memory.specs.declared.Form.{Form}
 use Rattle.gathering_rules.specs.Checks.{buffer_length, checked}
 use Rattle.gathering_rules.proofs.Checking.{passed}
 use Rattle.reader.specs.declared.Reader.{Reader}
-use Rattle.reader.specs.declared.Step.{Step}
+use Rattle.reader.specs.Outcome.{Step}
 use Rattle.reader.specs.State.{sound}
 use Rattle.reader.specs.Outcome.{Outcome}
 use Rattle.reader.specs.Pointer.{unit_start}

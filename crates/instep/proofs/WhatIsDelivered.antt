@@ -26,7 +26,7 @@ use Rattle.gathering_rules.proofs.Checking.{found_place}
 use Rattle.delivered.specs.declared.Place.{Place}
 use Rattle.delivered.specs.Delivered.{part_of, part_held_by, section_of}
 use Rattle.reader.specs.declared.Reader.{Reader}
-use Rattle.reader.specs.declared.Step.{Step}
+use Rattle.reader.specs.Outcome.{Step}
 use Rattle.reader.specs.State.{sound, idle, fresh}
 use Rattle.reader.specs.Outcome.{Outcome, outcome, answered, in_buffer, in_packet}
 use Rattle.reader.specs.Checks.{from_a_place, from_the_payload}

@@ -22,7 +22,7 @@ use Rattle.gathering_rules.proofs.Answering.{checked_is_one_of, start_refusal_is
 use Rattle.delivered.specs.declared.Place.{Place}
 use Rattle.delivered.specs.Delivered.{section_of}
 use Rattle.reader.specs.declared.Reader.{Reader}
-use Rattle.reader.specs.declared.Step.{Step}
+use Rattle.reader.specs.Outcome.{Step}
 use Rattle.reader.specs.State.{sound, fresh}
 use Rattle.reader.specs.Outcome.{Outcome, outcome, answered, in_buffer, in_packet}
 use Rattle.reader.specs.Checks.{from_a_place, from_the_payload}

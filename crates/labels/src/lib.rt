@@ -4,7 +4,7 @@
 ghost use Rattle.std.specs.Prelude.{◌≡◌};
 ghost use Rattle.labels.specs.Label.{table_id_of, table_of, label_of, no_label};
 
-use psi::{HeaderAnswer, Section, TableHeaderAnswer, TableSyntaxHeader};
+use psi::{Section, TableSyntaxHeader};
 
 #[derive(Clone, Copy)]
 pub struct Label {
@@ -20,8 +20,8 @@ fn table_id(section: &[u8]) -> u8
     ensures { result ≡ table_id_of section.now }
 {
     match Section::header(section) {
-        HeaderAnswer::Is(header) => header.table_id,
-        HeaderAnswer::Refused(_) => 0,
+        Ok(header) => header.table_id,
+        Err(_) => 0,
     }
 }
 
@@ -30,8 +30,8 @@ fn table(section: &[u8]) -> TableSyntaxHeader
     ensures { result ≡ table_of section.now }
 {
     match Section::table_header(section) {
-        TableHeaderAnswer::Is(header) => header,
-        TableHeaderAnswer::Refused(_) => TableSyntaxHeader {
+        Ok(header) => header,
+        Err(_) => TableSyntaxHeader {
             id: 0,
             version: 0,
             current_next_indicator: false,

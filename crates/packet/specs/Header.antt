@@ -1,13 +1,12 @@
 -- A packet and its header: document 01, "Bytes of a packet".
-use Rattle.std.specs.Prelude.{ℕ, false, List, length}
+use Rattle.std.specs.Prelude.{ℕ, false, List, length, Result}
 use Rattle.fields.specs.Choice.{when◌then◌else◌, ◌is◌, ◌is_not◌}
 use Rattle.fields.specs.SyntaxTable.{field}
 use Rattle.answers.specs.Numbers.{packet_size, no_sync_byte}
-use Rattle.answers.specs.Says.{Says, given, refused}
-use Rattle.answers.specs.Refusals.{number_of}
+use Rattle.answers.specs.Says.{Says, given, refused, says}
+use Rattle.answers.specs.declared.Refusal.{Refusal}
 use Rattle.packet.specs.Syntax.{transport_packet}
 use Rattle.packet.specs.declared.Header.{Header}
-use Rattle.packet.specs.declared.HeaderAnswer.{HeaderAnswer}
 
 -- "188 bytes, the first 0x47"
 abbrev pub size : ℕ
@@ -36,10 +35,9 @@ no_header =
       continuity_counter = 0;
     }
 
--- the number and the values of each case of the answer
-abbrev pub header_says : HeaderAnswer → Says Header
-header_says (HeaderAnswer.Is header) = given header
-header_says (HeaderAnswer.Refused refusal) = refused (number_of refusal) no_header
+-- the number and the values of the answer
+abbrev pub header_says : Result Header Refusal → Says Header
+header_says answer = says no_header answer
 
 -- the header's fields
 unfoldable pub fields_of : List ℕ → Header

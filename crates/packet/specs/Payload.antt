@@ -1,18 +1,16 @@
 -- The payload's place: document 01, "Bytes of a packet".
-use Rattle.std.specs.Prelude.{ℕ, ◌+◌, List, drop}
+use Rattle.std.specs.Prelude.{ℕ, ◌+◌, List, drop, Result}
 use Rattle.fields.specs.Choice.{when◌then◌else◌, ◌is◌, ◌is_above◌}
 use Rattle.fields.specs.SyntaxTable.{field}
 use Rattle.answers.specs.Numbers.{no_payload, payload_empty, payload_beyond}
-use Rattle.answers.specs.Says.{Says, given, refused}
-use Rattle.answers.specs.Refusals.{number_of}
+use Rattle.answers.specs.Says.{Says, given, refused, says}
 use Rattle.packet.specs.Syntax.{transport_packet, adaptation_field_length}
 use Rattle.packet.specs.Header.{size, of_a_packet}
-use Rattle.packet.specs.declared.Payload.{Payload}
+use Rattle.answers.specs.declared.Refusal.{Refusal}
 
--- the number and the value of each case of the answer
-abbrev pub payload_says : Payload → Says ℕ
-payload_says (Payload.At start) = given start
-payload_says (Payload.Refused refusal) = refused (number_of refusal) 0
+-- the number and the value of the answer
+abbrev pub payload_says : Result ℕ Refusal → Says ℕ
+payload_says answer = says 0 answer
 
 -- "Control 00 has neither part, 01 payload only, 10 adaptation field only, 11 both"
 abbrev pub control_of : List ℕ → ℕ

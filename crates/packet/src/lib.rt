@@ -29,20 +29,6 @@ pub struct Header {
     pub continuity_counter: u8,
 }
 
-// The header, or 3, 4.
-#[derive(Clone, Copy)]
-pub enum HeaderAnswer {
-    Is(Header),
-    Refused(Refusal),
-}
-
-// Where the payload starts (it goes on to the packet's end), or 3, 4, 6, 7, 8.
-#[derive(Clone, Copy)]
-pub enum Payload {
-    At(usize),
-    Refused(Refusal),
-}
-
 impl Pid {
     pub const MAX_VALUE: u16 = 0x1fff;
 
@@ -60,53 +46,45 @@ impl ContinuityCounter {
     pub fn follows(counter: u8, other: u8) -> bool
         ensures { result ≡ follows_of counter other }
     {
-        if ContinuityCounter::MAX_VALUE < counter {
-            return false;
-        }
-        if ContinuityCounter::MAX_VALUE < other {
-            return false;
-        }
-        counter == (other + 1) % ContinuityCounter::COUNT
+        counter <= ContinuityCounter::MAX_VALUE
+            && other <= ContinuityCounter::MAX_VALUE
+            && counter == (other + 1) % ContinuityCounter::COUNT
     }
 }
 
-impl Payload {
-    // Document 01's number of this answer: 0 for a place.
-    pub fn number(self) -> u8
-        ensures { result ≡ (payload_says self).number }
-    {
-        match self {
-            Payload::At(_) => 0,
-            Payload::Refused(refusal) => refusal.number(),
-        }
+// The number of what `Packet::payload` answers: 0 for a place.
+pub fn payload_number(payload: Result<usize, Refusal>) -> u8
+    ensures { result ≡ (payload_says payload).number }
+{
+    match payload {
+        Ok(_) => 0,
+        Err(refusal) => refusal.number(),
     }
 }
 
 // A payload that starts there.
-fn starting_at(start: usize) -> Payload
+fn starting_at(start: usize) -> Result<usize, Refusal>
     ensures { payload_says result ≡ starting_at start }
 {
     if start == Packet::SIZE {
-        return Payload::Refused(Refusal::PayloadEmpty);
+        return Err(Refusal::PayloadEmpty);
     }
     if Packet::SIZE < start {
-        return Payload::Refused(Refusal::PayloadBeyond);
+        return Err(Refusal::PayloadBeyond);
     }
-    Payload::At(start)
+    Ok(start)
 }
 
 // The payload of a packet with this adaptation field control.
-fn payload_behind(packet: &[u8], control: u8) -> Payload
+fn payload_behind(packet: &[u8], control: u8) -> Result<usize, Refusal>
     requires { (length packet.now ≡ size) × (control ≡ control_of packet.now) }
     ensures { payload_says result ≡ payload_behind packet.now }
 {
-    if control == 0b01 {
-        return starting_at(4);
+    match control {
+        0b01 => starting_at(4),
+        0b11 => starting_at(5 + (word(packet, 4, 1) % 256) as usize),
+        _ => Err(Refusal::NoPayload),
     }
-    if control == 0b11 {
-        return starting_at(5 + (word(packet, 4, 1) % 256) as usize);
-    }
-    Payload::Refused(Refusal::NoPayload)
 }
 
 impl Packet {
@@ -114,17 +92,18 @@ impl Packet {
 
     pub const SYNC_BYTE: u8 = 0x47;
 
-    pub fn header(packet: &[u8]) -> HeaderAnswer
+    // The header, or 3, 4.
+    pub fn header(packet: &[u8]) -> Result<Header, Refusal>
         ensures { header_says result ≡ header_of packet.now }
     {
         if packet.len() != Packet::SIZE {
-            return HeaderAnswer::Refused(Refusal::PacketSize);
+            return Err(Refusal::PacketSize);
         }
         let bits = word(packet, 0, 4);
         if (bits >> 24) % 256 != Packet::SYNC_BYTE as u64 {
-            return HeaderAnswer::Refused(Refusal::NoSyncByte);
+            return Err(Refusal::NoSyncByte);
         }
-        HeaderAnswer::Is(Header {
+        Ok(Header {
             transport_error_indicator: (bits >> 23) % 2 == 1,
             payload_unit_start_indicator: (bits >> 22) % 2 == 1,
             transport_priority: (bits >> 21) % 2 == 1,
@@ -135,12 +114,11 @@ impl Packet {
         })
     }
 
-    pub fn payload(packet: &[u8]) -> Payload
+    // Where the payload starts (it goes on to the packet's end), or 3, 4, 6, 7, 8.
+    pub fn payload(packet: &[u8]) -> Result<usize, Refusal>
         ensures { payload_says result ≡ payload_of packet.now }
     {
-        match Packet::header(packet) {
-            HeaderAnswer::Is(header) => payload_behind(packet, header.adaptation_field_control),
-            HeaderAnswer::Refused(refusal) => Payload::Refused(refusal),
-        }
+        let header = Packet::header(packet)?;
+        payload_behind(packet, header.adaptation_field_control)
     }
 }

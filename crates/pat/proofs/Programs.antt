@@ -6,17 +6,22 @@ use native.Mathlib.Nat.{div-one}
 use native.Mathlib.Omega.{arith}
 use borrow.Author.Tests.{le-leb, lt-leb, eq-eqb, ne_eqb}
 use lib.ListN.{length, drop, length-drop}
+use Rattle.std.specs.Prelude.{Result, Ok, Err}
+use Rattle.std.specs.Result.{IsErr, IsErrAnd}
 use Rattle.fields.specs.Choice.{when◌then◌else◌, ◌is◌}
 use Rattle.fields.specs.SyntaxTable.{size, behind, width}
 use Rattle.fields.specs.Word.{word_of}
 use Rattle.fields.proofs.SyntaxTables.{field_of_word}
 use Rattle.fields.proofs.Choices.{test_holds, test_fails}
 use Rattle.answers.specs.Numbers.{pat_tail}
-use Rattle.answers.specs.Says.{Says}
-use Rattle.walks.specs.Walk.{Found, found, none_fits_at}
+use Rattle.answers.specs.Says.{Says, refused}
+use Rattle.answers.specs.Refusals.{number_of}
+use Rattle.answers.specs.declared.Refusal.{Refusal}
+use Rattle.walks.specs.Walk.{Found, found, nothing, none_fits_at}
 use Rattle.walks.proofs.Walks.{found_entry, found_none}
 use Rattle.pat.specs.Syntax.{network_entry, program_entry}
-use Rattle.pat.specs.Programs.{program_of, program_kind, program_at}
+use Rattle.pat.specs.Programs.{program_of, program_kind, refusal_says, program_says, program_at}
+use Rattle.pat.specs.declared.ProgramRefusal.{ProgramRefusal}
 use Rattle.pat.specs.declared.ProgramDescriptor.{ProgramDescriptor}
 use Rattle.pat.specs.declared.ProgramDescriptor.TheVariants.{Network, Program}
 
@@ -52,3 +57,10 @@ module _ (body : List ℕ) (position : ℕ) where
         → program_at body position ≡ found (Program (word / 65536 % 65536) (word % 8192)) (position + 4)
     unfolding found_with
     program_found n = entry_found ∙ ap found_with (test_fails _ _ _ (ne_eqb _ _ n))
+
+-- a position that is refused
+pub refused_there : (answer : Result (ProgramDescriptor × ℕ) ProgramRefusal) (refusal : Refusal)
+    → IsErr answer × IsErrAnd answer (λ r. r ≡ ProgramRefusal.Refused refusal)
+    → program_says answer ≡ refused (number_of refusal) (nothing program_kind)
+refused_there (Ok program) refusal e = absurd e.1
+refused_there (Err r) refusal e = ap refusal_says e.1

@@ -1,5 +1,5 @@
 -- The programs of a PAT's body: document 01, "Sections, CRC, PAT, PMT".
-use Rattle.std.specs.Prelude.{ℕ, List, length}
+use Rattle.std.specs.Prelude.{ℕ, List, length, Result, Ok, Err}
 use Rattle.fields.specs.Choice.{when◌then◌else◌, ◌is◌, ◌is_at_most◌}
 use Rattle.fields.specs.SyntaxTable.{field}
 use Rattle.answers.specs.Numbers.{pat_tail}
@@ -9,7 +9,7 @@ use Rattle.walks.specs.Walk.{Kind, Found, found, nothing, none_fits_at, found_at
 use Rattle.pat.specs.Syntax.{network_entry, program_entry}
 use Rattle.pat.specs.declared.ProgramDescriptor.{ProgramDescriptor}
 use Rattle.pat.specs.declared.ProgramDescriptor.TheVariants.{Network, Program}
-use Rattle.pat.specs.declared.ProgramAnswer.{ProgramAnswer}
+use Rattle.pat.specs.declared.ProgramRefusal.{ProgramRefusal}
 
 -- "program number, 3 bits skipped, PID; number 0 means network"
 unfoldable pub program_of : List ℕ → ProgramDescriptor
@@ -28,11 +28,15 @@ program_kind =
       none = Network 0;
     }
 
--- the number, the values and the offset of each case of the answer
-abbrev pub program_says : ProgramAnswer → Says (Found ProgramDescriptor)
-program_says (ProgramAnswer.Is program next) = found program next
-program_says (ProgramAnswer.Tail offset) = none_fits_at program_kind offset pat_tail
-program_says (ProgramAnswer.Refused refusal) = refused (number_of refusal) (nothing program_kind)
+-- the number and the offset of each refusal
+abbrev pub refusal_says : ProgramRefusal → Says (Found ProgramDescriptor)
+refusal_says (ProgramRefusal.Tail offset) = none_fits_at program_kind offset pat_tail
+refusal_says (ProgramRefusal.Refused refusal) = refused (number_of refusal) (nothing program_kind)
+
+-- the number, the values and the offset of the answer
+abbrev pub program_says : Result (ProgramDescriptor × ℕ) ProgramRefusal → Says (Found ProgramDescriptor)
+program_says (Ok answer) = found answer.0 answer.1
+program_says (Err refusal) = refusal_says refusal
 
 -- "Walks take a body and a position"
 abbrev pub program_at : List ℕ → ℕ → Says (Found ProgramDescriptor)

@@ -2,10 +2,12 @@
 #![tactic(auto)]
 
 ghost use Rattle.std.specs.Prelude.{◌≡◌};
-ghost use Rattle.pat.specs.Programs.{program_says, program_at};
+ghost use Rattle.pat.specs.Programs.{refusal_says, program_says, program_at};
+ghost use Rattle.pat.specs.declared.ProgramRefusal.TheVariants.{Refused};
 
-use answers::Refusal;
+use answers::{Answer, Refusal};
 use fields::word;
+use walks::left_at;
 
 #[derive(Drop)]
 pub struct PatSection;
@@ -17,17 +19,30 @@ pub enum ProgramDescriptor {
     Program { program_number: u16, pid: u16 },
 }
 
-// The entry and the position behind it; 24, and the offset in the body of the one to three bytes that are left; or 23, 26.
-#[derive(Clone, Copy)]
-pub enum ProgramAnswer {
-    Is {
-        program: ProgramDescriptor,
-        next: usize,
-    },
-    Tail {
-        offset: usize,
-    },
+// Why there is no entry: 24, and the offset in the body of the one to three bytes that are left; or 23, 26.
+#[derive(Clone, Copy, PartialEq, Eq, Debug)]
+pub enum ProgramRefusal {
+    Tail { offset: usize },
     Refused(Refusal),
+}
+
+impl From<Refusal> for ProgramRefusal {
+    ghost from_gives = { λ why no_program. no_program ≡ Refused why };
+
+    fn from(why: Refusal) -> ProgramRefusal {
+        ProgramRefusal::Refused(why)
+    }
+}
+
+impl ProgramRefusal {
+    pub fn number(self) -> u8
+        ensures { result ≡ (refusal_says self).number }
+    {
+        match self {
+            ProgramRefusal::Tail { .. } => Answer::PAT_TAIL,
+            ProgramRefusal::Refused(refusal) => refusal.number(),
+        }
+    }
 }
 
 impl ProgramDescriptor {
@@ -35,32 +50,30 @@ impl ProgramDescriptor {
 }
 
 impl PatSection {
-    // The entry at a position of a body. A host starts at 0 and hands each next position back.
-    #[tactic(auto, using(crate::proofs::Programs::tail_found))]
-    pub fn program_at(body: &[u8], position: usize) -> ProgramAnswer
+    // The entry at a position of a body, and the position behind it. A host starts at 0 and hands each next position back.
+    pub fn program_at(
+        body: &[u8],
+        position: usize,
+    ) -> Result<(ProgramDescriptor, usize), ProgramRefusal>
         ensures { program_says result ≡ program_at body.now position }
     {
-        if body.len() < position {
-            return ProgramAnswer::Refused(Refusal::PositionAboveLength);
-        }
-        if position == body.len() {
-            return ProgramAnswer::Refused(Refusal::WalkAtEnd);
-        }
-        if body.len() - position < ProgramDescriptor::SIZE {
-            return ProgramAnswer::Tail { offset: position };
+        let left = left_at(body, position)?;
+        if left < ProgramDescriptor::SIZE {
+            return Err(ProgramRefusal::Tail { offset: position });
         }
         let bits = word(body, position, ProgramDescriptor::SIZE);
         let program_number = ((bits >> 16) % 65536) as u16;
         let pid = (bits % 8192) as u16;
         let next = position + ProgramDescriptor::SIZE;
         if program_number == 0 {
-            let program = ProgramDescriptor::Network { pid };
-            return ProgramAnswer::Is { program, next };
+            return Ok((ProgramDescriptor::Network { pid }, next));
         }
-        let program = ProgramDescriptor::Program {
-            program_number,
-            pid,
-        };
-        ProgramAnswer::Is { program, next }
+        Ok((
+            ProgramDescriptor::Program {
+                program_number,
+                pid,
+            },
+            next,
+        ))
     }
 }

@@ -7,16 +7,23 @@ use native.Mathlib.Nat.{div-one, add_assoc}
 use native.Mathlib.Omega.{arith}
 use borrow.Author.Tests.{le-leb, lt-leb, lt-ltb, le-ltb}
 use lib.ListN.{length, drop, length-drop}
+use Rattle.std.specs.Prelude.{Result, Ok, Err}
+use Rattle.std.specs.Result.{IsErr, IsErrAnd}
 use Rattle.fields.specs.Choice.{when◌then◌else◌, ◌is_at_most◌}
 use Rattle.fields.specs.SyntaxTable.{size, behind, width}
 use Rattle.fields.specs.Word.{word_of}
 use Rattle.fields.proofs.Choices.{test_holds, test_fails}
 use Rattle.fields.proofs.SyntaxTables.{field_of_word}
 use Rattle.answers.specs.Numbers.{stream_under5, info_past_end}
-use Rattle.walks.specs.Walk.{found, none_fits_at}
+use Rattle.answers.specs.Says.{refused}
+use Rattle.answers.specs.Refusals.{number_of}
+use Rattle.answers.specs.declared.Refusal.{Refusal}
+use Rattle.walks.specs.Walk.{found, nothing, none_fits_at}
 use Rattle.walks.proofs.Walks.{found_entry, found_none}
 use Rattle.pmt.specs.Syntax.{stream_header}
-use Rattle.pmt.specs.Streams.{info_length, stream_of, why_no_stream, stream_kind, stream_at}
+use Rattle.pmt.specs.Streams.{info_length, stream_of, why_no_stream, stream_kind, refusal_says, stream_says, stream_at}
+use Rattle.pmt.specs.declared.StreamInfo.{StreamInfo}
+use Rattle.pmt.specs.declared.StreamRefusal.{StreamRefusal}
 
 -- why no stream fits into some bytes
 pub why_under_5 : (bytes : List ℕ) → length bytes < 5 → why_no_stream bytes ≡ stream_under5
@@ -69,3 +76,10 @@ module _ (body : List ℕ) (position : ℕ) where
         ∙ le-leb (5 + info_length (drop position body)) (length (drop position body))
         (omega (arith, info_length_lem, length-drop position body)))
         ∙ simp (field_of_word stream_header body position 5 word (omega arith) refl read, div-one, add_assoc)
+
+-- a position that is refused
+pub refused_there : (answer : Result (StreamInfo × ℕ) StreamRefusal) (refusal : Refusal)
+    → IsErr answer × IsErrAnd answer (λ r. r ≡ StreamRefusal.Refused refusal)
+    → stream_says answer ≡ refused (number_of refusal) (nothing stream_kind)
+refused_there (Ok stream) refusal e = absurd e.1
+refused_there (Err r) refusal e = ap refusal_says e.1

@@ -1,5 +1,5 @@
 -- The start of a PMT's body: document 01, "Sections, CRC, PAT, PMT".
-use Rattle.std.specs.Prelude.{ℕ, ◌+◌, List, length}
+use Rattle.std.specs.Prelude.{ℕ, ◌+◌, List, length, Result, Ok, Err}
 use Rattle.fields.specs.Choice.{when◌then◌else◌, ◌is_below◌, ◌is_above◌}
 use Rattle.fields.specs.SyntaxTable.{field}
 use Rattle.answers.specs.Numbers.{pmt_too_short}
@@ -7,7 +7,7 @@ use Rattle.answers.specs.Says.{Says, given, refused}
 use Rattle.psi.specs.Place.{from_up_to, no_place}
 use Rattle.pmt.specs.Syntax.{map_header}
 use Rattle.pmt.specs.declared.PmtSection.{PmtSection}
-use Rattle.pmt.specs.declared.PmtAnswer.{PmtAnswer}
+use Rattle.pmt.specs.declared.TooShort.{TooShort}
 
 -- what was asked, and the two lengths that 22 tells
 pub record Start : Type 0 where
@@ -24,10 +24,10 @@ too_short needed actual =
     refused pmt_too_short
     (record { section = record { pcr_pid = 0; descriptors = no_place; streams = 0 }; needed = needed; actual = actual })
 
--- the number and the values of each case of the answer
-abbrev pub start_says : PmtAnswer → Says Start
-start_says (PmtAnswer.Is section) = started section
-start_says (PmtAnswer.TooShort needed actual) = too_short needed actual
+-- the number and the values of the answer
+abbrev pub start_says : Result PmtSection TooShort → Says Start
+start_says (Ok section) = started section
+start_says (Err lengths) = too_short lengths.needed lengths.actual
 
 -- "4 plus the low 12 bits of bytes 2 and 3 .. Streams start there"
 abbrev pub streams_start : List ℕ → ℕ

@@ -1,5 +1,5 @@
 -- The streams of a PMT's body: document 01, "Sections, CRC, PAT, PMT".
-use Rattle.std.specs.Prelude.{ℕ, ◌+◌, List, length, drop}
+use Rattle.std.specs.Prelude.{ℕ, ◌+◌, List, length, drop, Result, Ok, Err}
 use Rattle.fields.specs.Choice.{when◌then◌else◌, ◌and◌, ◌is_at_most◌, ◌is_below◌}
 use Rattle.fields.specs.SyntaxTable.{field}
 use Rattle.answers.specs.Numbers.{stream_under5, info_past_end}
@@ -10,7 +10,7 @@ use Rattle.walks.specs.Walk.{Kind, Found, found, nothing, none_fits_at, found_at
 use Rattle.pmt.specs.Syntax.{stream_header}
 use Rattle.pmt.specs.Start.{streams_start}
 use Rattle.pmt.specs.declared.StreamInfo.{StreamInfo}
-use Rattle.pmt.specs.declared.StreamAnswer.{StreamAnswer}
+use Rattle.pmt.specs.declared.StreamRefusal.{StreamRefusal}
 
 -- "12-bit info length"
 abbrev pub info_length : List ℕ → ℕ
@@ -40,12 +40,16 @@ stream_kind =
       none = record { stream_type = 0; elementary_pid = 0; info = no_place };
     }
 
--- the number, the values and the offset of each case of the answer
-abbrev pub stream_says : StreamAnswer → Says (Found StreamInfo)
-stream_says (StreamAnswer.Is stream next) = found stream next
-stream_says (StreamAnswer.Under5 offset) = none_fits_at stream_kind offset stream_under5
-stream_says (StreamAnswer.InfoPastEnd offset) = none_fits_at stream_kind offset info_past_end
-stream_says (StreamAnswer.Refused refusal) = refused (number_of refusal) (nothing stream_kind)
+-- the number and the offset of each refusal
+abbrev pub refusal_says : StreamRefusal → Says (Found StreamInfo)
+refusal_says (StreamRefusal.Under5 offset) = none_fits_at stream_kind offset stream_under5
+refusal_says (StreamRefusal.InfoPastEnd offset) = none_fits_at stream_kind offset info_past_end
+refusal_says (StreamRefusal.Refused refusal) = refused (number_of refusal) (nothing stream_kind)
+
+-- the number, the values and the offset of the answer
+abbrev pub stream_says : Result (StreamInfo × ℕ) StreamRefusal → Says (Found StreamInfo)
+stream_says (Ok answer) = found answer.0 answer.1
+stream_says (Err refusal) = refusal_says refusal
 
 -- "Walks take a body and a position"; "Starting elsewhere reads what stands there"
 abbrev pub stream_at : List ℕ → ℕ → Says (Found StreamInfo)

@@ -1,17 +1,15 @@
 -- The body of a section: document 01, "Sections, CRC, PAT, PMT".
-use Rattle.std.specs.Prelude.{ℕ, ◌-◌, List, length}
+use Rattle.std.specs.Prelude.{ℕ, ◌-◌, List, length, Result}
 use Rattle.fields.specs.Choice.{when◌then◌else◌, ◌is_below◌}
 use Rattle.answers.specs.Numbers.{section_under12}
-use Rattle.answers.specs.Says.{Says, given, refused}
-use Rattle.answers.specs.Refusals.{number_of}
+use Rattle.answers.specs.Says.{Says, given, refused, says}
+use Rattle.answers.specs.declared.Refusal.{Refusal}
 use Rattle.psi.specs.Place.{from_up_to, no_place}
 use Rattle.psi.specs.declared.Place.{Place}
-use Rattle.psi.specs.declared.Body.{Body}
 
--- the number and the value of each case of the answer
-abbrev pub body_says : Body → Says Place
-body_says (Body.At place) = given place
-body_says (Body.Refused refusal) = refused (number_of refusal) no_place
+-- the number and the value of the answer
+abbrev pub body_says : Result Place Refusal → Says Place
+body_says answer = says no_place answer
 
 -- "The body is bytes 8 up to the last 4 of a section; a section under 12 bytes is refused with 16"
 unfoldable pub body_of : List ℕ → Says Place

@@ -1,15 +1,13 @@
 -- The headers of a section: document 01, "Sections, CRC, PAT, PMT".
-use Rattle.std.specs.Prelude.{ℕ, ◌+◌, Bool, false, List, length, drop}
+use Rattle.std.specs.Prelude.{ℕ, ◌+◌, Bool, false, List, length, drop, Result}
 use Rattle.fields.specs.Choice.{when◌then◌else◌, ◌is◌, ◌is_below◌}
 use Rattle.fields.specs.SyntaxTable.{field}
 use Rattle.answers.specs.Numbers.{under3_bytes, under8_bytes}
-use Rattle.answers.specs.Says.{Says, given, refused}
-use Rattle.answers.specs.Refusals.{number_of}
+use Rattle.answers.specs.Says.{Says, given, refused, says}
+use Rattle.answers.specs.declared.Refusal.{Refusal}
 use Rattle.psi.specs.Syntax.{section_header, table_header}
 use Rattle.psi.specs.declared.SectionCommonHeader.{SectionCommonHeader}
 use Rattle.psi.specs.declared.TableSyntaxHeader.{TableSyntaxHeader}
-use Rattle.psi.specs.declared.HeaderAnswer.{HeaderAnswer}
-use Rattle.psi.specs.declared.TableHeaderAnswer.{TableHeaderAnswer}
 
 -- ---- the section header
 
@@ -48,10 +46,9 @@ no_header =
       section_length = 0;
     }
 
--- the number and the values of each case of the answer
-abbrev pub header_says : HeaderAnswer → Says SectionCommonHeader
-header_says (HeaderAnswer.Is header) = given header
-header_says (HeaderAnswer.Refused refusal) = refused (number_of refusal) no_header
+-- the number and the values of the answer
+abbrev pub header_says : Result SectionCommonHeader Refusal → Says SectionCommonHeader
+header_says answer = says no_header answer
 
 -- "Section header calls on fewer than 3 bytes answer 10"
 unfoldable pub header_of : List ℕ → Says SectionCommonHeader
@@ -88,9 +85,8 @@ no_table_header =
       last_section_number = 0;
     }
 
-abbrev pub table_header_says : TableHeaderAnswer → Says TableSyntaxHeader
-table_header_says (TableHeaderAnswer.Is header) = given header
-table_header_says (TableHeaderAnswer.Refused refusal) = refused (number_of refusal) no_table_header
+abbrev pub table_header_says : Result TableSyntaxHeader Refusal → Says TableSyntaxHeader
+table_header_says answer = says no_table_header answer
 
 -- "table header calls on a section of fewer than 8 bytes 12"
 unfoldable pub table_header_of : List ℕ → Says TableSyntaxHeader

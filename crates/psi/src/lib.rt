@@ -37,27 +37,6 @@ pub struct Place {
     pub len: usize,
 }
 
-// The section header, or 10.
-#[derive(Clone, Copy)]
-pub enum HeaderAnswer {
-    Is(SectionCommonHeader),
-    Refused(Refusal),
-}
-
-// The table header, or 12.
-#[derive(Clone, Copy)]
-pub enum TableHeaderAnswer {
-    Is(TableSyntaxHeader),
-    Refused(Refusal),
-}
-
-// Where the body lies, or 16.
-#[derive(Clone, Copy)]
-pub enum Body {
-    At(Place),
-    Refused(Refusal),
-}
-
 impl SectionCommonHeader {
     pub const SIZE: usize = 3;
 }
@@ -74,15 +53,15 @@ impl Section {
 
     pub const CRC_SIZE: usize = 4;
 
-    // The header of bytes that begin as a section does.
-    pub fn header(bytes: &[u8]) -> HeaderAnswer
+    // The header of bytes that begin as a section does, or 10.
+    pub fn header(bytes: &[u8]) -> Result<SectionCommonHeader, Refusal>
         ensures { header_says result ≡ header_of bytes.now }
     {
         if bytes.len() < SectionCommonHeader::SIZE {
-            return HeaderAnswer::Refused(Refusal::Under3Bytes);
+            return Err(Refusal::Under3Bytes);
         }
         let bits = word(bytes, 0, SectionCommonHeader::SIZE);
-        HeaderAnswer::Is(SectionCommonHeader {
+        Ok(SectionCommonHeader {
             table_id: ((bits >> 16) % 256) as u8,
             section_syntax_indicator: (bits >> 15) % 2 == 1,
             private_indicator: (bits >> 14) % 2 == 1,
@@ -90,14 +69,15 @@ impl Section {
         })
     }
 
-    pub fn table_header(section: &[u8]) -> TableHeaderAnswer
+    // The table header, or 12.
+    pub fn table_header(section: &[u8]) -> Result<TableSyntaxHeader, Refusal>
         ensures { table_header_says result ≡ table_header_of section.now }
     {
         if section.len() < Section::HEADERS_SIZE {
-            return TableHeaderAnswer::Refused(Refusal::Under8Bytes);
+            return Err(Refusal::Under8Bytes);
         }
         let bits = word(section, SectionCommonHeader::SIZE, TableSyntaxHeader::SIZE);
-        TableHeaderAnswer::Is(TableSyntaxHeader {
+        Ok(TableSyntaxHeader {
             id: ((bits >> 24) % 65536) as u16,
             version: ((bits >> 17) % 32) as u8,
             current_next_indicator: (bits >> 16) % 2 == 1,
@@ -106,15 +86,16 @@ impl Section {
         })
     }
 
-    pub fn body(section: &[u8]) -> Body
+    // Where the body lies, or 16.
+    pub fn body(section: &[u8]) -> Result<Place, Refusal>
         ensures { body_says result ≡ body_of section.now }
     {
         if section.len() < Section::HEADERS_SIZE + Section::CRC_SIZE {
-            return Body::Refused(Refusal::SectionUnder12);
+            return Err(Refusal::SectionUnder12);
         }
         let start = Section::HEADERS_SIZE;
         let end = section.len() - Section::CRC_SIZE;
         let len = end - start;
-        Body::At(Place { start, len })
+        Ok(Place { start, len })
     }
 }

@@ -5,6 +5,7 @@ use mathlib.Core.Bool.{Bool}
 use mathlib.Core.List.{List}
 use lib.ListN.{length}
 use borrow.Author.Tests.{ne_eqb}
+use Rattle.std.specs.Prelude.{Result, Ok, Err}
 use Rattle.fields.specs.Choice.{when◌then◌else◌}
 use Rattle.fields.proofs.Choices.{test_fails}
 use Rattle.answers.specs.Says.{given, refused}
@@ -12,7 +13,6 @@ use Rattle.answers.specs.Refusals.{number_of}
 use Rattle.answers.specs.declared.Refusal.{Refusal}
 use Rattle.answers.proofs.RefusalNumbers.{no_refusal_is_0}
 use Rattle.packet.specs.Payload.{payload_says}
-use Rattle.packet.specs.declared.Payload.{Payload}
 use Rattle.memory.specs.declared.Memory.{Memory}
 use Rattle.gathering_rules.specs.Checks.{checked}
 use Rattle.gathering_rules.proofs.Checking.{Passed, passed}
@@ -22,7 +22,6 @@ use Rattle.reader.specs.Checks.{from_a_place, from_the_payload}
 use Rattle.reader.specs.Gathering.{with_memory, answering, gathered, gathered_of}
 use Rattle.reader.specs.declared.Reader.{Reader}
 use Rattle.reader.specs.declared.Gathering.{Gathering}
-use Rattle.reader.specs.declared.GatheringStep.{GatheringStep}
 
 module _ (reader : Reader) (packet buffer : List ℕ) where
   -- it goes on from a place that is found
@@ -40,25 +39,23 @@ module _ (reader : Reader) (packet buffer : List ℕ) where
 
 -- the same of the code, which asks whether the state is sound, and is answered a payload
 module _ (memory : Memory) (gathering : Gathering) (packet buffer : List ℕ) (is_sound : Bool)
-    (asked : is_sound ≡ sound (with_memory memory gathering)) (payload : Payload)
+    (asked : is_sound ≡ sound (with_memory memory gathering)) (payload : Result ℕ Refusal)
     (says : payload_says payload ≡ checked is_sound packet (length buffer)) where
   says_of_state : payload_says payload ≡ checked (sound (with_memory memory gathering)) packet (length buffer)
   says_of_state = rw asked at says
 
-  pub refused_step : (go_on : ℕ → Outcome) (refusal : Refusal) → payload ≡ Payload.Refused refusal
-      → (n : ℕ) → n ≡ (payload_says payload).number → (step : GatheringStep) → step ≡ answering n gathering
-      → gathered step buffer ≡ gathered_of (from_the_payload (with_memory memory gathering) packet buffer go_on)
-  refused_step go_on refusal known n numbered step answers =
-      let number = numbered ∙ ap (λ (p : Payload). (payload_says p).number) known in
-      ap (λ (t : GatheringStep). gathered t buffer) (answers ∙ ap (λ (i : ℕ). answering i gathering) number)
-      ∙ sym (ap gathered_of
+  pub refused_step : (go_on : ℕ → Outcome) (refusal : Refusal) → payload ≡ Err refusal
+      → gathered (answering (number_of refusal) gathering) buffer
+      ≡ gathered_of (from_the_payload (with_memory memory gathering) packet buffer go_on)
+  refused_step go_on refusal known =
+      sym (ap gathered_of
       (stays (with_memory memory gathering) packet buffer go_on refusal (sym (ap payload_says known) ∙ says_of_state)))
 
-  pub step_from : (go_on : ℕ → Outcome) (start : ℕ) → payload ≡ Payload.At start
+  pub step_from : (go_on : ℕ → Outcome) (start : ℕ) → payload ≡ Ok start
       → from_the_payload (with_memory memory gathering) packet buffer go_on ≡ go_on start
   step_from go_on start known =
       goes_on (with_memory memory gathering) packet buffer go_on start (sym (ap payload_says known) ∙ says_of_state)
 
-  pub place_passed : (start : ℕ) → payload ≡ Payload.At start
+  pub place_passed : (start : ℕ) → payload ≡ Ok start
       → Passed (sound (with_memory memory gathering)) packet (length buffer) start
   place_passed start known = passed _ _ _ _ (sym (ap payload_says known) ∙ says_of_state)

@@ -8,7 +8,7 @@ use Rattle.memory.specs.declared.Form.{Form}
 use Rattle.memory.specs.declared.Memory.{Memory}
 use Rattle.delivered.specs.declared.Place.{Place}
 use Rattle.reader.specs.declared.Reader.{Reader}
-use Rattle.reader.specs.declared.Step.{Step}
+use Rattle.reader.specs.Outcome.{Step}
 use Rattle.reader.specs.Outcome.{Outcome}
 use Rattle.reader.specs.Checks.{from_a_place, from_the_payload}
 use Rattle.reader.specs.Whole.{whole}

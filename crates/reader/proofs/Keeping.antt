@@ -29,7 +29,7 @@ use Rattle.reader.specs.Head.{begun, started, head_from, head_of}
 use Rattle.reader.specs.Run.{EveryStep, Worked, worked, run}
 use Rattle.delivered.specs.declared.Place.{Place}
 use Rattle.reader.specs.declared.Reader.{Reader}
-use Rattle.reader.specs.declared.Step.{Step}
+use Rattle.reader.specs.Outcome.{Step}
 use Rattle.reader.proofs.Soundness.{memory_sound, open_sound}
 
 -- what a step keeps

@@ -21,9 +21,9 @@ use Rattle.gathering_rules.proofs.Checking.{found_place}
 use Rattle.gathering_rules.proofs.Answering.{verdict_is_one_of, start_refusal_is_one_of, checked_is_one_of}
 use Rattle.delivered.specs.declared.Place.{Place}
 use Rattle.reader.specs.declared.Reader.{Reader}
-use Rattle.reader.specs.declared.Step.{Step}
+use Rattle.reader.specs.Outcome.{Step}
 use Rattle.reader.specs.declared.Gathering.{Gathering}
-use Rattle.reader.specs.declared.GatheringStep.{GatheringStep}
+use Rattle.reader.specs.Gathering.{GatheringStep}
 use Rattle.reader.specs.State.{sound, gathering_of}
 use Rattle.reader.specs.Outcome.{Outcome, outcome, nowhere, in_buffer, in_packet}
 use Rattle.reader.specs.Checks.{from_a_place, from_the_payload}

@@ -1,14 +1,16 @@
 -- A step without the memory, which the step changes by its answer alone: what the code carries from function to function.
-use Rattle.std.specs.Prelude.{ℕ, true, false, List}
+use Rattle.std.specs.Prelude.{ℕ, true, false, List, Result}
+use Rattle.answers.specs.declared.Refusal.{Refusal}
 use Rattle.memory.specs.declared.Form.{Form}
 use Rattle.memory.specs.declared.Memory.{Memory}
 use Rattle.memory.specs.Memory.{after_answer}
+use Rattle.delivered.specs.declared.Place.{Place}
 use Rattle.reader.specs.declared.Reader.{Reader}
-use Rattle.reader.specs.declared.Step.{Step}
 use Rattle.reader.specs.declared.Gathering.{Gathering}
-use Rattle.reader.specs.declared.GatheringStep.{GatheringStep}
+use Rattle.reader.specs.declared.Progress.{Progress}
+use Rattle.reader.specs.declared.GatheringStep.{GatheringStep as CodeStep}
 use Rattle.reader.specs.State.{gathering_of}
-use Rattle.reader.specs.Outcome.{Outcome, nowhere}
+use Rattle.reader.specs.Outcome.{Step, Outcome, nowhere, number_said, place_said}
 
 -- ---- states
 
@@ -29,6 +31,19 @@ abbrev pub opening : Form → ℕ → ℕ → Gathering
 opening form held wanted = record { form = form; is_open = true; held = held; wanted = wanted }
 
 -- ---- steps
+
+-- what such a step says
+pub record GatheringStep : Type 0 where
+  pub gathering : Gathering
+  pub place : Place
+  pub answer : ℕ
+
+-- the code's answer, with the state after it
+abbrev pub telling : Result Progress Refusal → Gathering → GatheringStep
+telling answer gathering = record { gathering = gathering; place = place_said answer; answer = number_said answer }
+
+abbrev pub gathering_step_says : CodeStep → GatheringStep
+gathering_step_says step = telling step.answer step.gathering
 
 abbrev pub answering : ℕ → Gathering → GatheringStep
 answering answer gathering = record { gathering = gathering; place = nowhere; answer = answer }

@@ -4,7 +4,7 @@ use Rattle.fields.specs.Choice.{when◌then◌else◌, ◌is◌, ◌is_below◌}
 use Rattle.fields.specs.Laid.{laid}
 use Rattle.answers.specs.Numbers.{nothing_for_this_step, bytes_kept, pointer_beyond_rest, no_section_open}
 use Rattle.reader.specs.declared.Reader.{Reader}
-use Rattle.reader.specs.declared.Step.{Step}
+use Rattle.reader.specs.Outcome.{Step}
 use Rattle.reader.specs.State.{idle, opened}
 use Rattle.reader.specs.Outcome.{Outcome, outcome, answered, forgotten, in_buffer}
 use Rattle.reader.specs.Checks.{from_the_payload}

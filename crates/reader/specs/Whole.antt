@@ -7,7 +7,7 @@ use Rattle.memory.specs.declared.Memory.{Memory}
 use Rattle.memory.specs.Memory.{on_delivery}
 use Rattle.gathering_rules.specs.Verdict.{verdict}
 use Rattle.delivered.specs.declared.Place.{Place}
-use Rattle.reader.specs.declared.Step.{Step}
+use Rattle.reader.specs.Outcome.{Step}
 use Rattle.reader.specs.State.{idle}
 use Rattle.reader.specs.Outcome.{answered}
 

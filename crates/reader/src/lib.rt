@@ -10,21 +10,20 @@ ghost use Rattle.answers.specs.Numbers.{bytes_kept};
 ghost use Rattle.psi.specs.Header.{wanted};
 ghost use Rattle.gathering_rules.specs.Checks.{buffer_length};
 ghost use Rattle.reader.specs.State.{sound_counts, sound, fresh, gathering_of};
-ghost use Rattle.reader.specs.Outcome.{outcome};
-ghost use Rattle.reader.specs.Gathering.{with_memory, idling, opening, answering, gathered, gathered_of, without_memory, remembered};
+ghost use Rattle.reader.specs.Outcome.{outcome, step_says, number_said, place_said};
+ghost use Rattle.reader.specs.Gathering.{with_memory, idling, opening, telling, answering, gathering_step_says, gathered, gathered_of, without_memory, remembered};
 ghost use Rattle.reader.specs.Pointer.{pointer_of};
 ghost use Rattle.reader.specs.Whole.{whole};
 ghost use Rattle.reader.specs.Tail.{continued, tail_from, tail_of};
 ghost use Rattle.reader.specs.Head.{begun, started, head_from, head_of};
 
-use answers::Answer;
+use answers::{Answer, Refusal};
 pub use delivered::{Holder, Place, section};
 use fields::word;
-use gathering_rules::{Buffer, checked, least_held, start_refusal, verdict};
+use gathering_rules::{Buffer, checked, least_held, test_start, verdict};
 pub use marks::Marks;
 pub use memory::{Form, Memory};
 use memory_words::{are_sound, words_of};
-use packet::Payload;
 use psi::Section;
 
 // The state.
@@ -37,12 +36,19 @@ pub struct Reader {
     pub wanted: u16,
 }
 
-// A step's answer: its number, the state after it, and the place of a delivered section.
+// What a step does that nothing refuses: 0, 1, or 2 with the place of the delivered section.
+#[derive(Clone, Copy)]
+pub enum Progress {
+    NothingForThisStep,
+    BytesKept,
+    Delivered(Place),
+}
+
+// A step's answer, and the state after it.
 #[derive(Clone, Copy)]
 pub struct Step {
     pub reader: Reader,
-    pub place: Place,
-    pub answer: u8,
+    pub answer: Result<Progress, Refusal>,
 }
 
 // The state without its memory. A step changes the memory by its answer alone, so what a step does inside carries this: with counts of two bytes it goes in
@@ -59,8 +65,7 @@ pub struct Gathering {
 #[derive(Clone, Copy)]
 pub struct GatheringStep {
     pub gathering: Gathering,
-    pub place: Place,
-    pub answer: u8,
+    pub answer: Result<Progress, Refusal>,
 }
 
 // What the payload's first byte says.
@@ -69,6 +74,32 @@ pub enum Pointer {
     NoUnitStart,
     To(usize),
     BeyondRest,
+}
+
+// The number of a step's answer.
+pub fn number(answer: Result<Progress, Refusal>) -> u8
+    ensures { result ≡ number_said answer }
+{
+    match answer {
+        Ok(Progress::NothingForThisStep) => Answer::NOTHING_FOR_THIS_STEP,
+        Ok(Progress::BytesKept) => Answer::BYTES_KEPT,
+        Ok(Progress::Delivered(_)) => Answer::DELIVERED,
+        Err(refusal) => refusal.number(),
+    }
+}
+
+// The place of the section that a step delivered; nowhere in any other answer.
+pub fn place(answer: Result<Progress, Refusal>) -> Place
+    ensures { result ≡ place_said answer }
+{
+    match answer {
+        Ok(Progress::Delivered(place)) => place,
+        _ => Place {
+            holder: Holder::Nowhere,
+            start: 0,
+            len: 0,
+        },
+    }
 }
 
 impl Reader {
@@ -144,68 +175,52 @@ impl Gathering {
 }
 
 impl GatheringStep {
-    // An answer that delivers nothing.
-    fn answered(answer: u8, gathering: Gathering) -> Self
-        ensures { result ≡ answering answer gathering }
+    // A step that leaves the reader idle.
+    fn ended(answer: Result<Progress, Refusal>, form: Form) -> Self
+        ensures { gathering_step_says result ≡ telling answer (idling form) }
     {
         GatheringStep {
-            gathering,
-            place: Place {
-                holder: Holder::Nowhere,
-                start: 0,
-                len: 0,
-            },
-            answer,
-        }
-    }
-
-    // One that leaves the reader idle.
-    fn ended(answer: u8, form: Form) -> Self
-        ensures { result ≡ answering answer (idling form) }
-    {
-        GatheringStep::answered(
-            answer,
-            Gathering {
+            gathering: Gathering {
                 form,
                 is_open: false,
                 held: 0,
                 wanted: 0,
             },
-        )
+            answer,
+        }
     }
 
     // One that leaves it open.
     fn kept(form: Form, held: u16, wanted: u16) -> Self
-        ensures { result ≡ answering bytes_kept (opening form held wanted) }
+        ensures { gathering_step_says result ≡ answering bytes_kept (opening form held wanted) }
     {
-        GatheringStep::answered(
-            Answer::BYTES_KEPT,
-            Gathering {
+        GatheringStep {
+            gathering: Gathering {
                 form,
                 is_open: true,
                 held,
                 wanted,
             },
-        )
+            answer: Ok(Progress::BytesKept),
+        }
     }
 
     // The step of a reader that remembered this, and that delivered this section.
     fn remembered(self, memory: Memory, section: &[u8]) -> Step
-        ensures { result ≡ remembered memory self section.now }
+        ensures { step_says result ≡ remembered memory (gathering_step_says self) section.now }
     {
         let gathering = self.gathering;
         let form = gathering.form;
-        let place = self.place;
+        let answer = self.answer;
         Step {
             reader: Reader {
                 form,
-                memory: memory.after(self.answer, form, section),
+                memory: memory.after(number(answer), form, section),
                 is_open: gathering.is_open,
                 held: gathering.held,
                 wanted: gathering.wanted,
             },
-            place,
-            answer: self.answer,
+            answer,
         }
     }
 }
@@ -242,33 +257,23 @@ fn lay(buffer: &mut [u8], at: usize, bytes: &[u8])
 
 // How a whole section that lies there ends.
 fn whole(form: Form, place: Place, section: &[u8]) -> GatheringStep
-    ensures { (memory : Memory) → result ≡ without_memory (whole form memory place section.now) }
+    ensures { (memory : Memory) → gathering_step_says result ≡ without_memory (whole form memory place section.now) }
 {
-    let answer = verdict(form, section);
-    if answer == Answer::DELIVERED {
-        return GatheringStep {
-            gathering: Gathering {
-                form,
-                is_open: false,
-                held: 0,
-                wanted: 0,
-            },
-            place,
-            answer: Answer::DELIVERED,
-        };
+    match verdict(form, section) {
+        Ok(()) => GatheringStep::ended(Ok(Progress::Delivered(place)), form),
+        Err(refusal) => GatheringStep::ended(Err(refusal), form),
     }
-    GatheringStep::ended(answer, form)
 }
 
 impl Gathering {
     // The bytes continue the open section.
     fn continued(self, bytes: &[u8], buffer: &mut [u8]) -> GatheringStep
         requires { (length buffer.old ≡ buffer_length) × (sound_counts self ≡ true) }
-        ensures { (memory : Memory) → gathered result buffer.new ≡ gathered_of (continued (with_memory memory self) bytes.now buffer.old) }
+        ensures { (memory : Memory) → gathered (gathering_step_says result) buffer.new ≡ gathered_of (continued (with_memory memory self) bytes.now buffer.old) }
     {
         let form = self.form;
         if !self.is_open {
-            return GatheringStep::ended(Answer::NO_SECTION_OPEN, form);
+            return GatheringStep::ended(Err(Refusal::NoSectionOpen), form);
         }
         let held = self.held as usize;
         let wanted = self.wanted as usize;
@@ -290,13 +295,16 @@ impl Gathering {
     // The tail step on a payload that starts there.
     fn tail_from(self, packet: &[u8], start: usize, buffer: &mut [u8]) -> GatheringStep
         requires { (length packet.now ≡ size) × (start < size) × (length buffer.old ≡ buffer_length) × (sound_counts self ≡ true) }
-        ensures { (memory : Memory) → gathered result buffer.new ≡ gathered_of (tail_from (with_memory memory self) packet.now (drop start packet.now) buffer.old) }
+        ensures { (memory : Memory) → gathered (gathering_step_says result) buffer.new ≡ gathered_of (tail_from (with_memory memory self) packet.now (drop start packet.now) buffer.old) }
     {
         match pointer_at(packet, start) {
             Pointer::NoUnitStart => self.continued(&packet[start..], buffer),
             Pointer::To(to) => {
                 if to == 0 {
-                    return GatheringStep::answered(Answer::NOTHING_FOR_THIS_STEP, self);
+                    return GatheringStep {
+                        gathering: self,
+                        answer: Ok(Progress::NothingForThisStep),
+                    };
                 }
                 let from = start + 1;
                 let end = from + to;
@@ -304,20 +312,22 @@ impl Gathering {
             }
             Pointer::BeyondRest => {
                 let form = self.form;
-                GatheringStep::ended(Answer::POINTER_BEYOND_REST, form)
+                GatheringStep::ended(Err(Refusal::PointerBeyondRest), form)
             }
         }
     }
 
     // The tail step, where what is remembered is lent as words; `memory_words::remember` writes what ONCE remembers after it.
     pub fn tail_with(self, memory: &[u64], packet: &[u8], buffer: &mut [u8]) -> GatheringStep
-        ensures { gathered result buffer.new ≡ gathered_of (tail_of (with_memory (memory_in memory.now) self) packet.now buffer.old) }
+        ensures { gathered (gathering_step_says result) buffer.new ≡ gathered_of (tail_of (with_memory (memory_in memory.now) self) packet.now buffer.old) }
     {
-        let payload = checked(self.is_sound(memory), packet, buffer.len());
-        let Payload::At(start) = payload else {
-            return GatheringStep::answered(payload.number(), self);
-        };
-        self.tail_from(packet, start, buffer)
+        match checked(self.is_sound(memory), packet, buffer.len()) {
+            Ok(start) => self.tail_from(packet, start, buffer),
+            Err(refusal) => GatheringStep {
+                gathering: self,
+                answer: Err(refusal),
+            },
+        }
     }
 }
 
@@ -331,11 +341,11 @@ fn as_words(memory: Memory) -> [u64; 5]
 impl Reader {
     // The tail step: what the packet holds of the section that is open.
     pub fn tail(self, packet: &[u8], buffer: &mut [u8]) -> Step
-        ensures { outcome result buffer.new ≡ tail_of self packet.now buffer.old }
+        ensures { outcome (step_says result) buffer.new ≡ tail_of self packet.now buffer.old }
     {
         let words = as_words(self.memory);
         let step = self.gathering().tail_with(&words, packet, buffer);
-        let end = step.place.len as usize;
+        let end = place(step.answer).len as usize;
         step.remembered(self.memory, &buffer[..end])
     }
 }
@@ -346,15 +356,15 @@ fn wanted(section: &[u8]) -> u16
     ensures { result ≡ wanted section.now }
 {
     match Section::header(section) {
-        psi::HeaderAnswer::Is(header) => 3 + header.section_length,
-        psi::HeaderAnswer::Refused(_) => 0,
+        Ok(header) => 3 + header.section_length,
+        Err(_) => 0,
     }
 }
 
 // A section starts with these bytes, which stand at `at` in the packet: it is whole, or all of them are kept.
 fn begun(form: Form, bytes: &[u8], at: usize, buffer: &mut [u8]) -> GatheringStep
     requires { (3 ≤ length bytes.now) × (length bytes.now ≤ size) × (at ≤ size) × (length buffer.old ≡ buffer_length) }
-    ensures { (memory : Memory) → gathered result buffer.new ≡ gathered_of (begun form memory bytes.now at buffer.old) }
+    ensures { (memory : Memory) → gathered (gathering_step_says result) buffer.new ≡ gathered_of (begun form memory bytes.now at buffer.old) }
 {
     let size = wanted(bytes);
     let end = size as usize;
@@ -373,13 +383,12 @@ fn begun(form: Form, bytes: &[u8], at: usize, buffer: &mut [u8]) -> GatheringSte
 // The bytes, which stand at `at` in the packet, start a section, or are refused.
 fn started(form: Form, memory: &[u64], bytes: &[u8], at: usize, buffer: &mut [u8]) -> GatheringStep
     requires { (length bytes.now ≤ size) × (at ≤ size) × (length buffer.old ≡ buffer_length) }
-    ensures { gathered result buffer.new ≡ gathered_of (started form (memory_in memory.now) bytes.now at buffer.old) }
+    ensures { gathered (gathering_step_says result) buffer.new ≡ gathered_of (started form (memory_in memory.now) bytes.now at buffer.old) }
 {
-    let refusal = start_refusal(form, memory, bytes);
-    if refusal == 0 {
-        return begun(form, bytes, at, buffer);
+    match test_start(form, memory, bytes) {
+        Ok(()) => begun(form, bytes, at, buffer),
+        Err(refusal) => GatheringStep::ended(Err(refusal), form),
     }
-    GatheringStep::ended(refusal, form)
 }
 
 impl Gathering {
@@ -392,40 +401,49 @@ impl Gathering {
         buffer: &mut [u8],
     ) -> GatheringStep
         requires { (length packet.now ≡ size) × (start < size) × (length buffer.old ≡ buffer_length) }
-        ensures { gathered result buffer.new ≡ gathered_of (head_from (with_memory (memory_in memory.now) self) packet.now start buffer.old) }
+        ensures { gathered (gathering_step_says result) buffer.new ≡ gathered_of (head_from (with_memory (memory_in memory.now) self) packet.now start buffer.old) }
     {
         let form = self.form;
         match pointer_at(packet, start) {
-            Pointer::NoUnitStart => GatheringStep::answered(Answer::NOTHING_FOR_THIS_STEP, self),
+            Pointer::NoUnitStart => {
+                let answer = Ok(Progress::NothingForThisStep);
+                GatheringStep {
+                    gathering: self,
+                    answer,
+                }
+            }
             Pointer::To(to) => {
                 let at = start + 1 + to;
                 started(form, memory, &packet[at..], at, buffer)
             }
-            Pointer::BeyondRest => GatheringStep::ended(Answer::POINTER_BEYOND_REST, form),
+            Pointer::BeyondRest => GatheringStep::ended(Err(Refusal::PointerBeyondRest), form),
         }
     }
 
     // The head step, where what is remembered is lent as words; `memory_words::remember` writes what ONCE remembers after it.
     pub fn head_with(self, memory: &[u64], packet: &[u8], buffer: &mut [u8]) -> GatheringStep
-        ensures { gathered result buffer.new ≡ gathered_of (head_of (with_memory (memory_in memory.now) self) packet.now buffer.old) }
+        ensures { gathered (gathering_step_says result) buffer.new ≡ gathered_of (head_of (with_memory (memory_in memory.now) self) packet.now buffer.old) }
     {
-        let payload = checked(self.is_sound(memory), packet, buffer.len());
-        let Payload::At(start) = payload else {
-            return GatheringStep::answered(payload.number(), self);
-        };
-        self.head_from(memory, packet, start, buffer)
+        match checked(self.is_sound(memory), packet, buffer.len()) {
+            Ok(start) => self.head_from(memory, packet, start, buffer),
+            Err(refusal) => GatheringStep {
+                gathering: self,
+                answer: Err(refusal),
+            },
+        }
     }
 }
 
 impl Reader {
     // The head step: the section that starts in the packet.
     pub fn head(self, packet: &[u8], buffer: &mut [u8]) -> Step
-        ensures { outcome result buffer.new ≡ head_of self packet.now buffer.old }
+        ensures { outcome (step_says result) buffer.new ≡ head_of self packet.now buffer.old }
     {
         let words = as_words(self.memory);
         let step = self.gathering().head_with(&words, packet, buffer);
-        let from = step.place.start as usize;
-        let end = from + step.place.len as usize;
+        let place = place(step.answer);
+        let from = place.start as usize;
+        let end = from + place.len as usize;
         step.remembered(self.memory, &packet[from..end])
     }
 }

@@ -4,14 +4,18 @@ use mathlib.Core.Path.{◌≡◌, refl, sym, ap, ap₂, ◌∙◌}
 use mathlib.Core.Bool.{true, false, not}
 use mathlib.Core.List.{List, []}
 use native.Mathlib.Omega.{arith}
-use borrow.Author.Tests.{lt-ltb, le-ltb, eqb-true, eqb-false, eq-eqb, ne_eqb}
+use borrow.Author.Tests.{lt-ltb, le-ltb, ltb-false, eqb-true, eqb-false, eq-eqb, ne_eqb}
 use lib.ListN.{length, drop, length-drop}
 use lib.Seq.{drop-drop}
-use Rattle.fields.specs.Choice.{when◌then◌else◌, ◌is◌}
-use Rattle.fields.proofs.Choices.{test_holds, test_fails, by_test}
+use Rattle.std.specs.Prelude.{Result, Ok, Err}
+use Rattle.fields.specs.Choice.{when◌then◌else◌, ◌is◌, ◌is_below◌}
+use Rattle.fields.proofs.Choices.{test_holds, test_fails, by_test, second_chosen, either_way}
 use Rattle.answers.specs.Numbers.{walk_at_end, position_above_length}
-use Rattle.answers.specs.Says.{Says, refused}
-use Rattle.walks.specs.Walk.{Kind, Found, found, nothing, none_fits_at, found_at, entries_in, left_behind, left_from, Walked, got, ended_by, walked, exactly}
+use Rattle.answers.specs.Says.{Says, refused, says}
+use Rattle.answers.specs.Refusals.{number_of}
+use Rattle.answers.specs.declared.Refusal.{Refusal}
+use Rattle.answers.proofs.Saying.{same_values, given_is_not_refused}
+use Rattle.walks.specs.Walk.{Kind, Found, found, nothing, none_fits_at, left_of, found_at, entries_in, left_behind, left_from, Walked, got, ended_by, walked, exactly}
 
 -- an entry that fits has two bytes or more, and they are there; what says why none does refuses
 pub record Fitting {Entry : Type 0} (kind : Kind Entry) : Type 0 where
@@ -46,6 +50,34 @@ module _ {Entry : Type 0} (kind : Kind Entry) (body : List ℕ) (position : ℕ)
   pub found_none : position < length body → kind.fits (drop position body) ≡ false
       → found_at kind body position ≡ none_fits_at kind position (kind.why_not (drop position body))
   found_none l f = found_before_end l ∙ test_holds _ _ _ (ap not f)
+
+  -- ---- the same, where a call asked first what is left of the body
+
+  -- where nothing is, the walk is refused with that number
+  pub refused_as_its_left : {answer : Result ℕ Refusal} {refusal : Refusal} → answer ≡ Err refusal
+      → says 0 answer ≡ left_of body position → found_at kind body position ≡ refused (number_of refusal) (nothing kind)
+  unfolding left_of found_at
+  refused_as_its_left {refusal} known said =
+      either_way (length body is_below position) _ _ _ (sym said ∙ ap (says 0) known)
+      (λ above f. test_holds _ _ _ above ∙ numbered f)
+      (λ within f. either_way (position is length body) _ _ _ f
+      (λ at_end g. test_fails _ _ _ within ∙ test_holds _ _ _ at_end ∙ numbered g)
+      (λ before g. absurd (given_is_not_refused refusal g)))
+    where
+      numbered : {m n : ℕ} → refused {Values = ℕ} m 0 ≡ refused {Values = ℕ} n 0 → refused m (nothing kind) ≡ refused n (nothing kind)
+      numbered e = ap (λ (n : ℕ). refused n (nothing kind)) (ap (λ (s : Says ℕ). s.number) e)
+
+-- where something is left, the position stands before the body's end
+pub left_given : (body : List ℕ) (position : ℕ) {answer : Result ℕ Refusal} {left : ℕ} → answer ≡ Ok left
+    → says 0 answer ≡ left_of body position → (position < length body) × (left ≡ length body - position)
+unfolding left_of
+left_given body position known said =
+    let e = sym said ∙ ap (says 0) known in
+    let above = second_chosen _ _ _ _ e (λ f. given_is_not_refused Refusal.PositionAboveLength (sym f)) in
+    let end = second_chosen _ _ _ _ above.1 (λ f. given_is_not_refused Refusal.WalkAtEnd (sym f)) in
+    let most = ltb-false (length body) position above.0 in
+    let other = eqb-false position (length body) end.0 in
+    (omega (arith, most, other), same_values (sym end.1))
 
 -- ---- how a host's walk ends: with 23 where no bytes are left behind, else with why none fits into them and where they begin
 

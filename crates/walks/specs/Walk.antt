@@ -1,5 +1,5 @@
 -- Walks over a body, whatever its entries are: document 01, "Walks take a body and a position", and the loops of the standard.
-use Rattle.std.specs.Prelude.{ℕ, zero, suc, ◌+◌, Bool, not, List, [], ◌∷◌, length, drop}
+use Rattle.std.specs.Prelude.{ℕ, zero, suc, ◌+◌, ◌-◌, Bool, not, List, [], ◌∷◌, length, drop}
 use Rattle.fields.specs.Choice.{when◌then◌else◌, ◌is◌, ◌is_above◌}
 use Rattle.answers.specs.Numbers.{walk_at_end, position_above_length}
 use Rattle.answers.specs.Says.{Says, given, refused}
@@ -32,7 +32,14 @@ nothing kind = record { entry = kind.none; next = 0; offset = 0 }
 abbrev pub none_fits_at : {Entry : Type 0} → Kind Entry → ℕ → ℕ → Says (Found Entry)
 none_fits_at kind offset why = refused why (record { entry = kind.none; next = 0; offset = offset })
 
--- "26 if above its length, then 23 if nothing is left"; then why no entry fits here, or the entry that stands there
+-- "26 if above its length, then 23 if nothing is left": how many bytes are left
+unfoldable pub left_of : List ℕ → ℕ → Says ℕ
+left_of body position =
+    when position is_above length body then refused position_above_length 0
+    else when position is length body then refused walk_at_end 0
+    else given (length body - position)
+
+-- the same two tests, and then why no entry fits here, or the entry that stands there
 unfoldable pub found_at : {Entry : Type 0} → Kind Entry → List ℕ → ℕ → Says (Found Entry)
 found_at kind body position =
     when position is_above length body then refused position_above_length (nothing kind)

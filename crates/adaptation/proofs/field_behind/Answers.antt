@@ -1,35 +1,25 @@
--- `adaptation::field_behind` meets its contract: each way out gives what the tests before it choose. Assumes nothing.
-use mathlib.Core.Path.{ap}
-use borrow.Author.Tests.{ne_eqb, lt-ltb, le-ltb}
+-- `adaptation::field_behind` meets its contract: each arm gives what the tests choose. Assumes nothing.
+use native.Mathlib.Omega.{arith}
 use Rattle.fields.specs.Choice.{when◌then◌else◌}
-use Rattle.answers.specs.Says.{given}
 use Rattle.adaptation.specs.AdaptationField.{where_present}
 use Rattle.adaptation.proofs.field_behind.Goals as goal
 
-pub returns-then-n-eq183 : goal.returns-then-n-eq183
+pub returns-in-3-eq0 : goal.returns-in-3-eq0
 unfolding where_present when◌then◌else◌
-returns-then-n-eq183 c =
-    simp (c.if-control-eq2.true, c.if-n-eq183.true)
-    (ap given c.flags_of.ensures)
+returns-in-3-eq0 c = grind arith
 
-pub returns-then-control-eq2 : goal.returns-then-control-eq2
+pub returns-in_default : goal.returns-in_default
 unfolding where_present when◌then◌else◌
-returns-then-control-eq2 c = simp (c.if-control-eq2.true, ne_eqb _ _ c.if-n-eq183.false)
+returns-in_default c = grind arith
 
-pub returns-then-n-eq0 : goal.returns-then-n-eq0
+pub returns-in-2-eq183 : goal.returns-in-2-eq183
 unfolding where_present when◌then◌else◌
-returns-then-n-eq0 c = simp (c.if-control-eq3.true, c.if-n-eq0.true)
+returns-in-2-eq183 c = grind arith
 
-pub returns-then-n-le182 : goal.returns-then-n-le182
+pub returns-in-2-default : goal.returns-in-2-default
 unfolding where_present when◌then◌else◌
-returns-then-n-le182 c =
-    simp (c.if-control-eq3.true, ne_eqb _ _ c.if-n-eq0.false, le-ltb _ _ c.if-n-le182.true)
-    (ap given c.flags_of-then-n-le182.ensures)
+returns-in-2-default c = grind arith
 
-pub returns-then-control-eq3 : goal.returns-then-control-eq3
+pub returns-in-2-default-2 : goal.returns-in-2-default-2
 unfolding where_present when◌then◌else◌
-returns-then-control-eq3 c = simp (c.if-control-eq3.true, ne_eqb _ _ c.if-n-eq0.false, lt-ltb _ _ c.if-n-le182.false)
-
-pub returns : goal.returns
-unfolding where_present when◌then◌else◌
-returns c = simp (ne_eqb _ _ c.if-control-eq2.false, ne_eqb _ _ c.if-control-eq3.false)
+returns-in-2-default-2 c = grind arith

@@ -2,19 +2,21 @@
 -- flags. Assumes nothing.
 use mathlib.Core.Path.{sym, ◌∙◌}
 use Rattle.fields.specs.SyntaxTable.{size}
+use Rattle.answers.proofs.Saying.{passed_on}
 use Rattle.adaptation_parts.specs.Parts.{pcr_of}
 use Rattle.adaptation.proofs.AdaptationFields.{within_its_packet, told_of_a_field, refused_as_its_field}
 use Rattle.adaptation_parts.proofs.pcr.Goals as goal
 
-pub bytes_of-requires : goal.bytes_of-requires
-bytes_of-requires c = within_its_packet _ c.in-Is.is c.of.ensures
+pub bytes_of-bytes-requires : goal.bytes_of-bytes-requires
+bytes_of-bytes-requires c = within_its_packet _ c.in_ok-field.was c.of.ensures
 
-pub returns-in-Is : goal.returns-in-Is
+pub returns : goal.returns
 unfolding pcr_of size
-returns-in-Is c =
-    rw c.bytes_of.ensures at c.clock_at.ensures
-    ∙ sym (told_of_a_field _ _ _ c.in-Is.is c.of.ensures)
+returns c =
+    rw c.bytes_of-bytes.ensures at c.clock_at.ensures
+    ∙ sym (told_of_a_field _ _ _ c.in_ok-field.was c.of.ensures)
 
-pub returns-in-Refused : goal.returns-in-Refused
+pub returns-in_err-field : goal.returns-in_err-field
 unfolding pcr_of
-returns-in-Refused c = sym (refused_as_its_field _ _ _ c.in-Refused.is c.of.ensures)
+returns-in_err-field c =
+    passed_on _ _ _ c.from_residual.ensures ∙ sym (refused_as_its_field _ _ _ c.in_err-field.was c.of.ensures)

@@ -8,16 +8,16 @@ use Rattle.answers.specs.Says.{given}
 use Rattle.adaptation_parts.proofs.Parts.{flag_is_clear, field_ends_before_lem, part_is_there, byte_of_its_row}
 use Rattle.adaptation_parts.proofs.splice_countdown_at.Goals as goal
 
-pub returns-then-not-flag : goal.returns-then-not-flag
-returns-then-not-flag c = sym (flag_is_clear _ _ _ _ _ c.if-not-flag.true)
-
-pub returns-then-field-at : goal.returns-then-field-at
-unfolding size
-returns-then-field-at c = sym (field_ends_before_lem _ _ _ _ _ c.if-not-flag.false (simp length-drop (omega arith)))
-
 pub returns : goal.returns
+returns c = sym (flag_is_clear _ _ _ _ _ c.if-flag.false)
+
+pub returns-then-flag : goal.returns-then-flag
+unfolding size
+returns-then-flag c = sym (field_ends_before_lem _ _ _ _ _ c.if-flag.true (simp length-drop (omega arith)))
+
+pub returns-then-at-field : goal.returns-then-at-field
 unfolding when◌then◌else◌ size offset width value_of
-returns c =
+returns-then-at-field c =
     let at = c.args.at in
     ap given (byte_of_its_row _ at (omega arith) (omega (arith, c.shared_slice_known-1.given at)))
-    ∙ sym (part_is_there _ _ _ _ _ c.if-not-flag.false (simp length-drop (omega arith)))
+    ∙ sym (part_is_there _ _ _ _ _ c.if-flag.true (simp length-drop (omega arith)))

@@ -9,7 +9,7 @@ use Rattle.reader.proofs.wanted.Goals as goal
 pub overflow_add-result : goal.overflow_add-result
 unfolding fields_of
 overflow_add-result c =
-    let known = sym (ap header_says c.in-Is.is) ∙ c.header.ensures in
+    let known = sym (ap header_says c.in-Ok.is) ∙ c.header.ensures in
     let is = header_given _ _ known in
     omega (
       arith,
@@ -17,14 +17,14 @@ overflow_add-result c =
       ap (λ h. h.section_length) is.1,
     )
 
-pub returns-in-Is : goal.returns-in-Is
+pub returns-in-Ok : goal.returns-in-Ok
 unfolding fields_of
-returns-in-Is c =
-    let known = sym (ap header_says c.in-Is.is) ∙ c.header.ensures in
+returns-in-Ok c =
+    let known = sym (ap header_says c.in-Ok.is) ∙ c.header.ensures in
     ap (λ h. 3 + h.section_length) (header_given _ _ known).1
 
-pub returns-in-Refused : goal.returns-in-Refused
-returns-in-Refused c =
-    let known = sym (ap header_says c.in-Refused.is) ∙ c.header.ensures in
-    let few = (header_refused _ c.in-Refused.field-0 known).0 in
+pub returns-in-Err : goal.returns-in-Err
+returns-in-Err c =
+    let known = sym (ap header_says c.in-Err.is) ∙ c.header.ensures in
+    let few = (header_refused _ c.in-Err.field-0 known).0 in
     absurd (omega arith)

@@ -10,6 +10,7 @@ use Rattle.fields.specs.Choice.{when◌then◌else◌}
 use Rattle.fields.specs.SyntaxTable.{size, behind, width}
 use Rattle.fields.specs.Word.{word_of}
 use Rattle.fields.proofs.SyntaxTables.{field_of_word}
+use Rattle.answers.proofs.Saying.{passed_on}
 use Rattle.packet.specs.Syntax.{adaptation_field_length}
 use Rattle.packet.specs.Header.{header_says, fields_of}
 use Rattle.packet.specs.Payload.{length_byte}
@@ -25,21 +26,21 @@ length-byte-of-word packet word there is =
 
 pub field_behind-requires : goal.field_behind-requires
 field_behind-requires c =
-    let known = sym (ap header_says c.in-Is.is) ∙ c.header.ensures in
+    let known = sym (ap header_says c.in_ok-header.was) ∙ c.header.ensures in
     let sized = (header_given _ _ known).sized in
     (sized, length-byte-of-word _ _ (omega arith) c.word.ensures)
 
-pub returns-in-Is : goal.returns-in-Is
+pub returns : goal.returns
 unfolding adaptation_field_of of_a_field fields_of
-returns-in-Is c =
-    let known = sym (ap header_says c.in-Is.is) ∙ c.header.ensures in
+returns c =
+    let known = sym (ap header_says c.in_ok-header.was) ∙ c.header.ensures in
     let control = ap (λ h. h.adaptation_field_control) (header_given _ _ known).fields in
     let sized = (header_given _ _ known).sized in
     let long = length-byte-of-word _ _ (omega arith) c.word.ensures in
     rw (long, control) at c.field_behind.ensures ∙ sym (told_of_a_packet _ _ _ _ known)
 
-pub returns-in-Refused : goal.returns-in-Refused
+pub returns-in_err-header : goal.returns-in_err-header
 unfolding adaptation_field_of of_a_field
-returns-in-Refused c =
-    let known = sym (ap header_says c.in-Refused.is) ∙ c.header.ensures in
-    sym (refused_as_its_header _ _ _ _ known)
+returns-in_err-header c =
+    let known = sym (ap header_says c.in_err-header.was) ∙ c.header.ensures in
+    passed_on _ _ _ c.from_residual.ensures ∙ sym (refused_as_its_header _ _ _ _ known)

@@ -40,8 +40,7 @@ pub returns-in-NoUnitStart : goal.returns-in-NoUnitStart
 returns-in-NoUnitStart c =
     let a = c.args in
     let unit = no_unit_start _ _ (sym c.pointer_at.ensures ∙ c.in-NoUnitStart.is) in
-    ap (λ step. gathered step a.buffer.now) c.answered.ensures
-    ∙ sym (ap gathered_of
+    sym (ap gathered_of
     (head_without_unit_start (with_memory (memory_in a.memory.now) a.self) a.packet.now a.start a.buffer.now unit))
 
 pub returns-in-To : goal.returns-in-To

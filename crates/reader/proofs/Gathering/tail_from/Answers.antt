@@ -14,8 +14,7 @@ pub returns-then-to-eq0 : goal.returns-then-to-eq0
 returns-then-to-eq0 c memory =
     let a = c.args in
     let points = points_to _ _ _ (sym c.pointer_at.ensures ∙ c.in-To.is) in
-    ap (λ step. gathered step a.buffer.now) c.answered.ensures
-    ∙ sym (ap gathered_of
+    sym (ap gathered_of
     (tail_at_0 (with_memory memory a.self) a.packet.now a.start a.buffer.now (rw c.if-to-eq0.true at points)))
 
 pub overflow_add-end : goal.overflow_add-end

@@ -7,22 +7,21 @@ use Rattle.reader.proofs.Soundness.{counts_sound}
 use Rattle.reader.proofs.Checking.{refused_step, step_from, place_passed}
 use Rattle.reader.proofs.Gathering.tail_with.Goals as goal
 
-pub returns-in_default : goal.returns-in_default
+pub returns-in-Err : goal.returns-in-Err
 unfolding tail_of
-returns-in_default c =
+returns-in-Err c =
     let a = c.args in
-    refused_step _ a.self a.packet.now a.buffer.now _ c.is_sound.ensures _ c.checked-payload.ensures
-    _ c.in_default.field-0 c.in_default.is _ c.number.ensures _ c.answered.ensures
+    refused_step _ a.self a.packet.now a.buffer.now _ c.is_sound.ensures _ c.checked.ensures _ _ c.in-Err.is
 
 pub tail_from-requires : goal.tail_from-requires
 tail_from-requires c =
     let a = c.args in
-    let p = place_passed _ a.self a.packet.now a.buffer.now _ c.is_sound.ensures _ c.checked-payload.ensures _ c.in-At.is in
+    let p = place_passed _ a.self a.packet.now a.buffer.now _ c.is_sound.ensures _ c.checked.ensures _ c.in-Ok.is in
     (p.sized, p.within, p.lent, counts_sound _ p.sound_state)
 
-pub returns : goal.returns
+pub returns-in-Ok : goal.returns-in-Ok
 unfolding tail_of
-returns c =
+returns-in-Ok c =
     let a = c.args in
-    let goes = step_from _ a.self a.packet.now a.buffer.now _ c.is_sound.ensures _ c.checked-payload.ensures _ _ c.in-At.is in
+    let goes = step_from _ a.self a.packet.now a.buffer.now _ c.is_sound.ensures _ c.checked.ensures _ _ c.in-Ok.is in
     c.tail_from.ensures (memory_in a.memory.now) ∙ sym (ap gathered_of goes)

@@ -2,4 +2,4 @@
 use Rattle.reader.proofs.GatheringStep.remembered.Goals as goal
 
 pub returns : goal.returns
-returns c = simp c.after.ensures
+returns c = simp (c.after.ensures, c.number.ensures)

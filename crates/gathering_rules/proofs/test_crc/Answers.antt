@@ -1,9 +1,9 @@
--- `gathering_rules::crc_verdict` meets its contract: each way out gives what the tests before it choose. Assumes nothing.
+-- `gathering_rules::test_crc` meets its contract: each way out gives what the tests before it choose. Assumes nothing.
 use mathlib.Core.Path.{sym, ◌∙◌}
 use borrow.Author.Tests.{lt-ltb, le-ltb, eq-eqb, ne_eqb}
 use Rattle.fields.specs.Choice.{when◌then◌else◌}
 use Rattle.gathering_rules.specs.Verdict.{crc_verdict}
-use Rattle.gathering_rules.proofs.crc_verdict.Goals as goal
+use Rattle.gathering_rules.proofs.test_crc.Goals as goal
 
 pub returns-then-section-lt12 : goal.returns-then-section-lt12
 unfolding crc_verdict when◌then◌else◌

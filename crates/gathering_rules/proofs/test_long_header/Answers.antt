@@ -1,9 +1,9 @@
--- `gathering_rules::long_refusal` meets its contract: each test in its order. Assumes nothing.
+-- `gathering_rules::test_long_header` meets its contract: each test in its order. Assumes nothing.
 use mathlib.Core.Path.{sym, ◌∙◌}
 use borrow.Author.Tests.{lt-ltb, le-ltb}
 use Rattle.fields.proofs.Choices.{test_holds, test_fails}
 use Rattle.gathering_rules.specs.Start.{header_refusal}
-use Rattle.gathering_rules.proofs.long_refusal.Goals as goal
+use Rattle.gathering_rules.proofs.test_long_header.Goals as goal
 
 pub returns-then-not-header : goal.returns-then-not-header
 unfolding header_refusal
@@ -16,4 +16,4 @@ returns-then-len-lt-HEADERS_SIZE c = sym (test_fails _ _ _ c.if-not-header.false
 pub returns : goal.returns
 unfolding header_refusal
 returns c =
-    c.length_refusal.ensures ∙ sym (test_fails _ _ _ c.if-not-header.false ∙ test_fails _ _ _ (le-ltb _ _ c.if-len-lt-HEADERS_SIZE.false))
+    c.test_length.ensures ∙ sym (test_fails _ _ _ c.if-not-header.false ∙ test_fails _ _ _ (le-ltb _ _ c.if-len-lt-HEADERS_SIZE.false))
