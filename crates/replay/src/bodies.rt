@@ -1,8 +1,8 @@
 // The bodies of a PAT and a PMT: single entries, and walks from entry to entry until one is refused.
-use crate::line::{GIVEN, Page};
+use crate::line::Page;
 use answers::Answer;
-use pat::{PatSection, ProgramAnswer, ProgramDescriptor};
-use pmt::{PmtAnswer, PmtSection, StreamAnswer};
+use pat::{PatSection, ProgramDescriptor, ProgramRefusal};
+use pmt::{PmtSection, StreamRefusal};
 
 // What is put: all, or what the Rust crate shows, which has no positions but those of the parts.
 #[derive(Clone, Copy, Debug, PartialEq, Eq)]
@@ -16,21 +16,11 @@ pub fn put_program_at(position: usize, body: &[u8], page: &mut Page) {
 }
 
 pub fn put_programs(position: usize, body: &[u8], page: &mut Page) {
-    put_walk(
-        |at, page| put_program(Detail::All, at, body, page),
-        position,
-        body,
-        page,
-    );
+    put_program_walk(Detail::All, position, body, page);
 }
 
 pub fn put_pat(body: &[u8], page: &mut Page) {
-    put_walk(
-        |at, page| put_program(Detail::Shown, at, body, page),
-        0,
-        body,
-        page,
-    );
+    put_program_walk(Detail::Shown, 0, body, page);
 }
 
 pub fn put_stream_at(position: usize, body: &[u8], page: &mut Page) {
@@ -60,27 +50,35 @@ fn put_map_and_streams(detail: Detail, body: &[u8], page: &mut Page) {
     }
 }
 
-fn put_stream_walk(detail: Detail, position: usize, body: &[u8], page: &mut Page) {
+fn put_program_walk(detail: Detail, position: usize, body: &[u8], page: &mut Page) {
     put_walk(
-        |at, page| put_stream(detail, at, body, page),
+        |at, page| put_program(detail, at, body, page),
         position,
-        body,
+        body.len(),
         page,
     );
 }
 
-// The walk of a host: from the position on, each next position handed back, until a refusal. One call more than the body has
-// bytes is enough.
+fn put_stream_walk(detail: Detail, position: usize, body: &[u8], page: &mut Page) {
+    put_walk(
+        |at, page| put_stream(detail, at, body, page),
+        position,
+        body.len(),
+        page,
+    );
+}
+
+// The walk of a host: from the position on, each next position handed back, until a refusal. A body has no more entries than bytes.
 fn put_walk<F: Fn(usize, &mut Page) -> Option<usize>>(
     put_entry: F,
     position: usize,
-    body: &[u8],
+    most: usize,
     page: &mut Page,
 )
     requires { F.IsAlwaysCallable put_entry }
 {
     let mut next = put_entry(position, page);
-    for _ in 0..body.len() {
+    for _ in 0..most {
         let Some(position) = next else {
             return;
         };
@@ -92,20 +90,19 @@ fn put_walk<F: Fn(usize, &mut Page) -> Option<usize>>(
 // Puts the entry at the position, and answers the next position. Where none fits, it puts why.
 fn put_program(detail: Detail, position: usize, body: &[u8], page: &mut Page) -> Option<usize> {
     match PatSection::program_at(body, position) {
-        ProgramAnswer::Refused(refusal) => {
-            page.put_refusal(refusal);
-            None
-        }
-        ProgramAnswer::Tail { offset } => {
-            put_stop(detail, Answer::PAT_TAIL, offset, page);
-            None
-        }
-        ProgramAnswer::Is { program, next } => {
+        Ok((program, next)) => {
             match detail {
                 Detail::All => put_whole_program(program, next, page),
                 Detail::Shown => put_shown_program(program, page),
             }
             Some(next)
+        }
+        Err(refusal) => {
+            page.put_number(u64::from(refusal.number()));
+            if let ProgramRefusal::Tail { offset } = refusal {
+                put_position(detail, offset, page);
+            }
+            None
         }
     }
 }
@@ -113,46 +110,33 @@ fn put_program(detail: Detail, position: usize, body: &[u8], page: &mut Page) ->
 fn put_whole_program(program: ProgramDescriptor, next: usize, page: &mut Page) {
     match program {
         ProgramDescriptor::Network { pid } => {
-            page.put_text(b"0 network ");
-            page.put_numbers(&[pid as u64, next as u64]);
+            page.put_text(b"0 network");
+            page.put_values(&[pid as u64, next as u64]);
         }
         ProgramDescriptor::Program {
             program_number,
             pid,
         } => {
-            page.put_text(b"0 program ");
-            page.put_numbers(&[program_number as u64, pid as u64, next as u64]);
+            page.put_text(b"0 program");
+            page.put_values(&[program_number as u64, pid as u64, next as u64]);
         }
     }
 }
 
 fn put_shown_program(program: ProgramDescriptor, page: &mut Page) {
     match program {
-        ProgramDescriptor::Network { pid } => page.put_numbers(&[GIVEN, 0, pid as u64]),
+        ProgramDescriptor::Network { pid } => page.put_given(&[0, pid as u64]),
         ProgramDescriptor::Program {
             program_number,
             pid,
-        } => page.put_numbers(&[GIVEN, program_number as u64, pid as u64]),
+        } => page.put_given(&[program_number as u64, pid as u64]),
     }
 }
 
 fn put_stream(detail: Detail, position: usize, body: &[u8], page: &mut Page) -> Option<usize> {
     match PmtSection::stream_at(body, position) {
-        StreamAnswer::Refused(refusal) => {
-            page.put_refusal(refusal);
-            None
-        }
-        StreamAnswer::Under5 { offset } => {
-            put_stop(detail, Answer::STREAM_UNDER_5, offset, page);
-            None
-        }
-        StreamAnswer::InfoPastEnd { offset } => {
-            put_stop(detail, Answer::INFO_PAST_END, offset, page);
-            None
-        }
-        StreamAnswer::Is { stream, next } => {
-            page.put_numbers(&[
-                GIVEN,
+        Ok((stream, next)) => {
+            page.put_given(&[
                 stream.stream_type as u64,
                 stream.elementary_pid as u64,
                 stream.info.start as u64,
@@ -161,36 +145,38 @@ fn put_stream(detail: Detail, position: usize, body: &[u8], page: &mut Page) -> 
             put_position(detail, next, page);
             Some(next)
         }
-    }
-}
-
-// Why no entry fits, and the offset of what is left.
-fn put_stop(detail: Detail, answer: u8, offset: usize, page: &mut Page) {
-    page.put_numbers(&[answer as u64]);
-    put_position(detail, offset, page);
-}
-
-// A position that the Rust crate does not show.
-fn put_position(detail: Detail, position: usize, page: &mut Page) {
-    if detail == Detail::All {
-        page.put_text(b" ");
-        page.put_numbers(&[position as u64]);
+        Err(refusal) => {
+            page.put_number(u64::from(refusal.number()));
+            if let StreamRefusal::Under5 { offset }
+            | StreamRefusal::InfoPastEnd { offset } = refusal
+            {
+                put_position(detail, offset, page);
+            }
+            None
+        }
     }
 }
 
 // Puts the PMT's start, and answers where its streams start.
 fn put_map(detail: Detail, body: &[u8], page: &mut Page) -> Option<usize> {
     match PmtSection::start(body) {
-        PmtAnswer::TooShort { needed, actual } => {
-            page.put_numbers(&[Answer::PMT_TOO_SHORT as u64, needed as u64, actual as u64]);
-            None
-        }
-        PmtAnswer::Is(map) => {
-            page.put_numbers(&[GIVEN, map.pcr_pid as u64]);
-            put_position(detail, map.descriptors.start as usize, page);
-            page.put_text(b" ");
-            page.put_numbers(&[map.descriptors.len as u64, map.streams as u64]);
+        Ok(map) => {
+            page.put_given(&[map.pcr_pid as u64]);
+            put_position(detail, map.descriptors.start, page);
+            page.put_values(&[map.descriptors.len as u64, map.streams as u64]);
             Some(map.streams)
         }
+        Err(short) => {
+            page.put_number(u64::from(Answer::PMT_TOO_SHORT));
+            page.put_values(&[short.needed as u64, short.actual as u64]);
+            None
+        }
+    }
+}
+
+// A position that the Rust crate does not show.
+fn put_position(detail: Detail, position: usize, page: &mut Page) {
+    if detail == Detail::All {
+        page.put_values(&[position as u64]);
     }
 }

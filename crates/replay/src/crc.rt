@@ -1,6 +1,6 @@
 // The CRC.
-use crate::line::{GIVEN, Page};
+use crate::line::Page;
 
 pub fn put_sum32(bytes: &[u8], page: &mut Page) {
-    page.put_numbers(&[GIVEN, u64::from(mpegts_crc::sum32(bytes))]);
+    page.put_given(&[u64::from(mpegts_crc::sum32(bytes))]);
 }

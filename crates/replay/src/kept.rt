@@ -93,7 +93,7 @@ impl Kept {
     // Keeps what a step leaves.
     pub fn keep(&mut self, step: Step) {
         self.reader = step.reader;
-        self.answer = step.answer;
-        self.place = step.place;
+        self.answer = reader::number(step.answer);
+        self.place = reader::place(step.answer);
     }
 }

@@ -1,10 +1,5 @@
 // What an answer is made of. It is put on a page, which is written when it is full and before more requests are read.
-ghost use Rattle.std.specs.Prelude.{◌<◌, length};
-
 use answers::Refusal;
-
-pub const GIVEN: u64 = 0;
-
 use fields::word;
 use std::io;
 use std::io::{Print, Stdout};
@@ -47,17 +42,6 @@ impl<'a> Page<'a> {
             self.put_text(b" ");
             self.put_number(*value);
         }
-    }
-
-    pub fn put_numbers(&mut self, numbers: &[u64])
-        requires { 0 < length numbers.now }
-    {
-        self.put_number(numbers[0]);
-        self.put_values(&numbers[1..]);
-    }
-
-    pub fn put_refusal(&mut self, refusal: Refusal) {
-        self.put_number(u64::from(refusal.number()));
     }
 
     // An answer that refuses nothing, and its values.

@@ -1,12 +1,10 @@
 // A packet's header, its payload, and its counter.
-use crate::line::{GIVEN, Page};
-use packet::{ContinuityCounter, HeaderAnswer, Packet, Payload};
+use crate::line::Page;
+use packet::{ContinuityCounter, Packet, payload_number};
 
 pub fn put_header(packet: &[u8], page: &mut Page) {
-    match Packet::header(packet) {
-        HeaderAnswer::Refused(refusal) => page.put_refusal(refusal),
-        HeaderAnswer::Is(header) => page.put_numbers(&[
-            GIVEN,
+    page.put_answer(Packet::header(packet).map(|header| {
+        [
             header.transport_error_indicator as u64,
             header.payload_unit_start_indicator as u64,
             header.transport_priority as u64,
@@ -14,25 +12,19 @@ pub fn put_header(packet: &[u8], page: &mut Page) {
             header.transport_scrambling_control as u64,
             header.adaptation_field_control as u64,
             header.continuity_counter as u64,
-        ]),
-    }
+        ]
+    }));
 }
 
 pub fn put_payload(packet: &[u8], page: &mut Page) {
-    match Packet::payload(packet) {
-        Payload::Refused(refusal) => page.put_refusal(refusal),
-        Payload::At(start) => page.put_numbers(&[GIVEN, start as u64]),
-    }
+    page.put_answer(Packet::payload(packet).map(|start| [start as u64]));
 }
 
-// What number() says of the payload's answer.
 pub fn put_payload_number(packet: &[u8], page: &mut Page) {
-    let answer = Packet::payload(packet);
-    page.put_numbers(&[answer.number() as u64]);
+    page.put_number(u64::from(payload_number(Packet::payload(packet))));
 }
 
 // Whether a counter follows another.
 pub fn put_follows(counter: u8, other: u8, page: &mut Page) {
-    let follows = ContinuityCounter::follows(counter, other);
-    page.put_numbers(&[GIVEN, follows as u64]);
+    page.put_given(&[u64::from(ContinuityCounter::follows(counter, other))]);
 }
