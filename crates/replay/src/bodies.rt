@@ -68,7 +68,8 @@ fn put_stream_walk(detail: Detail, position: usize, body: &[u8], page: &mut Page
     );
 }
 
-// The walk of a host: from the position on, each next position handed back, until a refusal. A body has no more entries than bytes.
+// The walk of a host: from the position on, each next position handed back, until a refusal. One call more than the body has
+// bytes is enough.
 fn put_walk<F: Fn(usize, &mut Page) -> Option<usize>>(
     put_entry: F,
     position: usize,

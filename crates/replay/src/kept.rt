@@ -27,7 +27,7 @@ impl Bytes {
         &self.room[..self.size]
     }
 
-    pub fn set_zeros(&mut self, count: usize)
+    fn set_zeros(&mut self, count: usize)
         requires { count ≤ 131072 }
     {
         let room = &mut self.room[..];

@@ -7,7 +7,8 @@ use std::io::{Print, Stdout};
 // How many bytes the page has.
 pub const PAGE: usize = 65536;
 
-// (Its methods say less than those of `text`: nothing here is proved of what is written, and each call is then proved in less time.)
+// The page. (Its methods say less than those of `text`: nothing here is proved of what is written, and each call is then proved in
+// less time.)
 #[derive(Drop)]
 pub struct Page<'a> {
     page: text::Page<'a>,
