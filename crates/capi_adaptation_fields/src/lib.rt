@@ -6,8 +6,9 @@ ghost use Rattle.adaptation.specs.AdaptationField.{adaptation_field_of};
 ghost use Rattle.adaptation_parts.specs.Parts.{clock_says, pcr_of, opcr_of, splice_countdown_of, transport_private_data_of};
 ghost use Rattle.capi_adaptation_fields.specs.AdaptationFields.{adaptation_field_for_c, clock_for_c, splice_countdown_for_c, private_data_for_c};
 
-use adaptation::{AdaptationField, AdaptationFieldAnswer};
-use adaptation_parts::{ClockAnswer, SpliceCountdown, TransportPrivateData};
+use adaptation::AdaptationField;
+use adaptation_parts::ClockRef;
+use answers::Refusal;
 use capi_numbers::JambpepperPart;
 
 #[repr(C)]
@@ -45,7 +46,7 @@ pub extern "C" fn jambpepper_adaptation_field(packet: &[u8]) -> JambpepperAdapta
     ensures { result ≡ adaptation_field_for_c (adaptation_field_of packet.now) }
 {
     match AdaptationField::of(packet) {
-        AdaptationFieldAnswer::Is(field) => JambpepperAdaptationField {
+        Ok(field) => JambpepperAdaptationField {
             adaptation_field_length: field.adaptation_field_length,
             discontinuity_indicator: field.discontinuity_indicator as u8,
             random_access_indicator: field.random_access_indicator as u8,
@@ -57,7 +58,7 @@ pub extern "C" fn jambpepper_adaptation_field(packet: &[u8]) -> JambpepperAdapta
             adaptation_field_extension_flag: field.adaptation_field_extension_flag as u8,
             answer: 0,
         },
-        AdaptationFieldAnswer::Refused(refusal) => JambpepperAdaptationField {
+        Err(refusal) => JambpepperAdaptationField {
             adaptation_field_length: 0,
             discontinuity_indicator: 0,
             random_access_indicator: 0,
@@ -73,16 +74,16 @@ pub extern "C" fn jambpepper_adaptation_field(packet: &[u8]) -> JambpepperAdapta
 }
 
 // A PCR or an OPCR.
-fn clock_for_c(clock: ClockAnswer) -> JambpepperClock
+fn clock_for_c(clock: Result<ClockRef, Refusal>) -> JambpepperClock
     ensures { result ≡ clock_for_c (clock_says clock) }
 {
     match clock {
-        ClockAnswer::Is(clock) => JambpepperClock {
+        Ok(clock) => JambpepperClock {
             base: clock.base,
             extension: clock.extension,
             answer: 0,
         },
-        ClockAnswer::Refused(refusal) => JambpepperClock {
+        Err(refusal) => JambpepperClock {
             base: 0,
             extension: 0,
             answer: refusal.number(),
@@ -109,11 +110,11 @@ pub extern "C" fn jambpepper_splice_countdown(packet: &[u8]) -> JambpepperSplice
     ensures { result ≡ splice_countdown_for_c (splice_countdown_of packet.now) }
 {
     match adaptation_parts::splice_countdown(packet) {
-        SpliceCountdown::Is(splice_countdown) => JambpepperSpliceCountdown {
+        Ok(splice_countdown) => JambpepperSpliceCountdown {
             splice_countdown,
             answer: 0,
         },
-        SpliceCountdown::Refused(refusal) => JambpepperSpliceCountdown {
+        Err(refusal) => JambpepperSpliceCountdown {
             splice_countdown: 0,
             answer: refusal.number(),
         },
@@ -125,12 +126,12 @@ pub extern "C" fn jambpepper_transport_private_data(packet: &[u8]) -> Jambpepper
     ensures { result ≡ private_data_for_c (transport_private_data_of packet.now) }
 {
     match adaptation_parts::transport_private_data(packet) {
-        TransportPrivateData::At(place) => JambpepperPart {
+        Ok(place) => JambpepperPart {
             start: place.start,
             length: place.length,
             answer: 0,
         },
-        TransportPrivateData::Refused(refusal) => JambpepperPart {
+        Err(refusal) => JambpepperPart {
             start: 0,
             length: 0,
             answer: refusal.number(),

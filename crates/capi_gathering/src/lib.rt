@@ -4,6 +4,7 @@
 ghost use Rattle.std.specs.Prelude.{◌+◌, ◌≤◌, ◌≡◌, true, length, take, drop};
 ghost use Rattle.memory_words.specs.Words.{words_after};
 ghost use Rattle.mpegts_crc.specs.Crc.{crc_of};
+ghost use Rattle.reader.specs.Gathering.{gathering_step_says};
 ghost use Rattle.reader.specs.Tail.{tail_of};
 ghost use Rattle.reader.specs.Head.{head_of};
 ghost use Rattle.capi_numbers.specs.Numbers.{flag};
@@ -15,7 +16,8 @@ use capi_numbers::JambpepperPlace;
 use gathering_rules::checked;
 use memory_words::{memory_of, remember, remembers};
 use mpegts_crc::sum32;
-use reader::{Form, Gathering, GatheringStep, Holder, Place, Reader};
+use packet::payload_number;
+use reader::{Form, Gathering, GatheringStep, Holder, Place, Reader, number, place};
 
 // The state without its memory, which is lent beside it: 48 bytes by value would go through the stack in each call. 8 bytes are moved at once: a host that stores
 // 6 in two parts and loads them in two others waits for the first.
@@ -136,14 +138,13 @@ fn place_for_c(place: Place) -> JambpepperPlace
 }
 
 fn step_for_c(step: GatheringStep) -> JambpepperStep
-    ensures { result ≡ gathering_step_for_c step }
+    ensures { result ≡ gathering_step_for_c (gathering_step_says step) }
 {
     let gathering = step.gathering;
-    let place = step.place;
     JambpepperStep {
         reader: gathering_for_c(gathering),
-        place: place_for_c(place),
-        answer: step.answer,
+        place: place_for_c(place(step.answer)),
+        answer: number(step.answer),
     }
 }
 
@@ -159,7 +160,7 @@ fn refused_for_c(reader: JambpepperReader, packet: &[u8], buffer: usize) -> Jamb
             length: 0,
             holder: 0,
         },
-        answer: payload.number(),
+        answer: payload_number(payload),
     }
 }
 
@@ -215,8 +216,8 @@ pub extern "C" fn jambpepper_tail(
     if names_reader(reader, memory) {
         let step = gathering_from_c(reader).tail_with(memory, packet, buffer);
         let told = step_for_c(step);
-        if remembers(memory, step.answer) {
-            remember_at(memory, step.answer, 0, step.place.len, buffer);
+        if remembers(memory, told.answer) {
+            remember_at(memory, told.answer, 0, told.place.length, buffer);
         }
         return told;
     }
@@ -235,12 +236,12 @@ pub extern "C" fn jambpepper_head(
     if names_reader(reader, memory) {
         let step = gathering_from_c(reader).head_with(memory, packet, buffer);
         let told = step_for_c(step);
-        if remembers(memory, step.answer) {
+        if remembers(memory, told.answer) {
             remember_at(
                 memory,
-                step.answer,
-                step.place.start,
-                step.place.len,
+                told.answer,
+                told.place.start,
+                told.place.length,
                 packet,
             );
         }

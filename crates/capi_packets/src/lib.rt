@@ -8,7 +8,7 @@ ghost use Rattle.packet.specs.Counter.{follows_of};
 ghost use Rattle.capi_numbers.specs.Numbers.{flag};
 ghost use Rattle.capi_packets.specs.Packets.{header_for_c, payload_for_c};
 
-use packet::{ContinuityCounter, HeaderAnswer, Packet, Payload};
+use packet::{ContinuityCounter, Packet};
 
 #[repr(C)]
 #[derive(Clone, Copy)]
@@ -35,7 +35,7 @@ pub extern "C" fn jambpepper_header(packet: &[u8]) -> JambpepperHeader
     ensures { result ≡ header_for_c (header_of packet.now) }
 {
     match Packet::header(packet) {
-        HeaderAnswer::Is(header) => JambpepperHeader {
+        Ok(header) => JambpepperHeader {
             pid: header.pid,
             transport_error_indicator: header.transport_error_indicator as u8,
             payload_unit_start_indicator: header.payload_unit_start_indicator as u8,
@@ -45,7 +45,7 @@ pub extern "C" fn jambpepper_header(packet: &[u8]) -> JambpepperHeader
             continuity_counter: header.continuity_counter,
             answer: 0,
         },
-        HeaderAnswer::Refused(refusal) => JambpepperHeader {
+        Err(refusal) => JambpepperHeader {
             pid: 0,
             transport_error_indicator: 0,
             payload_unit_start_indicator: 0,
@@ -63,8 +63,8 @@ pub extern "C" fn jambpepper_payload(packet: &[u8]) -> JambpepperPayload
     ensures { result ≡ payload_for_c (payload_of packet.now) }
 {
     match Packet::payload(packet) {
-        Payload::At(start) => JambpepperPayload { start, answer: 0 },
-        Payload::Refused(refusal) => JambpepperPayload {
+        Ok(start) => JambpepperPayload { start, answer: 0 },
+        Err(refusal) => JambpepperPayload {
             start: 0,
             answer: refusal.number(),
         },

@@ -7,7 +7,7 @@ ghost use Rattle.psi.specs.Body.{body_of};
 ghost use Rattle.capi_sections.specs.Sections.{section_header_for_c, table_header_for_c, part_for_c};
 
 use capi_numbers::JambpepperPart;
-use psi::{Body, HeaderAnswer, Section, TableHeaderAnswer};
+use psi::Section;
 
 #[repr(C)]
 #[derive(Clone, Copy)]
@@ -35,14 +35,14 @@ pub extern "C" fn jambpepper_section_header(section: &[u8]) -> JambpepperSection
     ensures { result ≡ section_header_for_c (header_of section.now) }
 {
     match Section::header(section) {
-        HeaderAnswer::Is(header) => JambpepperSectionHeader {
+        Ok(header) => JambpepperSectionHeader {
             section_length: header.section_length,
             table_id: header.table_id,
             section_syntax_indicator: header.section_syntax_indicator as u8,
             private_indicator: header.private_indicator as u8,
             answer: 0,
         },
-        HeaderAnswer::Refused(refusal) => JambpepperSectionHeader {
+        Err(refusal) => JambpepperSectionHeader {
             section_length: 0,
             table_id: 0,
             section_syntax_indicator: 0,
@@ -57,7 +57,7 @@ pub extern "C" fn jambpepper_table_header(section: &[u8]) -> JambpepperTableHead
     ensures { result ≡ table_header_for_c (table_header_of section.now) }
 {
     match Section::table_header(section) {
-        TableHeaderAnswer::Is(header) => JambpepperTableHeader {
+        Ok(header) => JambpepperTableHeader {
             id: header.id,
             version: header.version,
             current_next_indicator: header.current_next_indicator as u8,
@@ -65,7 +65,7 @@ pub extern "C" fn jambpepper_table_header(section: &[u8]) -> JambpepperTableHead
             last_section_number: header.last_section_number,
             answer: 0,
         },
-        TableHeaderAnswer::Refused(refusal) => JambpepperTableHeader {
+        Err(refusal) => JambpepperTableHeader {
             id: 0,
             version: 0,
             current_next_indicator: 0,
@@ -81,12 +81,12 @@ pub extern "C" fn jambpepper_body(section: &[u8]) -> JambpepperPart
     ensures { result ≡ part_for_c (body_of section.now) }
 {
     match Section::body(section) {
-        Body::At(place) => JambpepperPart {
+        Ok(place) => JambpepperPart {
             start: place.start,
             length: place.len,
             answer: 0,
         },
-        Body::Refused(refusal) => JambpepperPart {
+        Err(refusal) => JambpepperPart {
             start: 0,
             length: 0,
             answer: refusal.number(),

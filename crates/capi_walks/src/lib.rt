@@ -8,8 +8,8 @@ ghost use Rattle.pmt.specs.Streams.{stream_at};
 ghost use Rattle.capi_walks.specs.Walks.{program_for_c, found_program, no_program, pmt_for_c, stream_for_c, no_stream};
 
 use answers::Answer;
-use pat::{PatSection, ProgramAnswer, ProgramDescriptor};
-use pmt::{PmtAnswer, PmtSection, StreamAnswer};
+use pat::{PatSection, ProgramDescriptor, ProgramRefusal};
+use pmt::{PmtSection, StreamRefusal, TooShort};
 
 #[repr(C)]
 #[derive(Clone, Copy)]
@@ -88,9 +88,9 @@ pub extern "C" fn jambpepper_program_at(body: &[u8], position: usize) -> Jambpep
     ensures { result ≡ program_for_c (program_at body.now position) }
 {
     match PatSection::program_at(body, position) {
-        ProgramAnswer::Is { program, next } => found_program(program, next),
-        ProgramAnswer::Tail { offset } => no_program(offset, Answer::PAT_TAIL),
-        ProgramAnswer::Refused(refusal) => no_program(0, refusal.number()),
+        Ok((program, next)) => found_program(program, next),
+        Err(ProgramRefusal::Tail { offset }) => no_program(offset, Answer::PAT_TAIL),
+        Err(ProgramRefusal::Refused(refusal)) => no_program(0, refusal.number()),
     }
 }
 
@@ -99,7 +99,7 @@ pub extern "C" fn jambpepper_pmt_start(body: &[u8]) -> JambpepperPmt
     ensures { result ≡ pmt_for_c (start_of body.now) }
 {
     match PmtSection::start(body) {
-        PmtAnswer::Is(section) => {
+        Ok(section) => {
             let descriptors = section.descriptors;
             JambpepperPmt {
                 descriptors_start: descriptors.start,
@@ -111,7 +111,7 @@ pub extern "C" fn jambpepper_pmt_start(body: &[u8]) -> JambpepperPmt
                 answer: 0,
             }
         }
-        PmtAnswer::TooShort { needed, actual } => JambpepperPmt {
+        Err(TooShort { needed, actual }) => JambpepperPmt {
             descriptors_start: 0,
             descriptors_length: 0,
             streams: 0,
@@ -143,7 +143,7 @@ pub extern "C" fn jambpepper_stream_at(body: &[u8], position: usize) -> Jambpepp
     ensures { result ≡ stream_for_c (stream_at body.now position) }
 {
     match PmtSection::stream_at(body, position) {
-        StreamAnswer::Is { stream, next } => {
+        Ok((stream, next)) => {
             let info = stream.info;
             JambpepperStream {
                 info_start: info.start,
@@ -155,8 +155,8 @@ pub extern "C" fn jambpepper_stream_at(body: &[u8], position: usize) -> Jambpepp
                 answer: 0,
             }
         }
-        StreamAnswer::Under5 { offset } => no_stream(offset, Answer::STREAM_UNDER_5),
-        StreamAnswer::InfoPastEnd { offset } => no_stream(offset, Answer::INFO_PAST_END),
-        StreamAnswer::Refused(refusal) => no_stream(0, refusal.number()),
+        Err(StreamRefusal::Under5 { offset }) => no_stream(offset, Answer::STREAM_UNDER_5),
+        Err(StreamRefusal::InfoPastEnd { offset }) => no_stream(offset, Answer::INFO_PAST_END),
+        Err(StreamRefusal::Refused(refusal)) => no_stream(0, refusal.number()),
     }
 }

@@ -2,5 +2,4 @@ pub mod Xor
 pub mod Steps
 pub mod Nibbles
 pub mod Table
-pub mod LastArm
 pub mod Determined

@@ -2,7 +2,7 @@
 -- are added to the register, `register_added`. Assumes nothing.
 use mathlib.Core.Path.{◌≡◌, refl, sym, ap, ap₂, ◌∙◌}
 use Prim.Native.Nat.{ℕ, zero, suc, ◌+◌, ◌*◌, ◌/◌, ◌%◌, ◌^◌, ◌<◌}
-use native.Mathlib.Nat.{zero-add, suc-add, mul-one, zero-div, div-one, mod-eq_of_lt}
+use native.Mathlib.Nat.{zero-add, suc-add, mul-one, zero-div, mod-eq_of_lt}
 use native.Mathlib.Omega.{arith}
 use lib.Bits.{bit_xor, xor_shr, xor_mod, xor_comm, xor_zero_l, xor_zero_r}
 use Rattle.crc_steps.specs.BitSteps.{◌plus_polynomial_if◌, bit_step, bit_steps, bit_enters, bits_enter}
@@ -66,27 +66,19 @@ unfolding bit_steps bit_step ◌plus_polynomial_if◌
 steps_zero zero = refl
 steps_zero (suc k) = steps_zero k
 
-module _ (behind bits : ℕ) where
-  -- what the last n fours of the bits bring
-  abbrev brought : ℕ → ℕ
-  brought n = bit_steps (behind * 4) (bits_enter (n * 4) 0 bits)
+pub no_four : (behind bits : ℕ) → 0 ≡ bit_steps (behind * 4) (bits_enter 0 0 bits)
+unfolding bits_enter
+no_four behind bits = sym (steps_zero (behind * 4))
 
-  pub next_four : (n : ℕ) {sum four : ℕ} → sum ≡ brought n → four ≡ nibble_entry (n + behind) (bits / 2 ^ (n * 4) % 16)
-      → bit_xor sum four ≡ brought (n + 1)
-  next_four n p e =
-      let i : ℕ = bits / 2 ^ (n * 4) % 16 in
-      let q : (n + 1) * 4 + behind * 4 ≡ (n + behind + 1) * 4 = omega arith in
-      ap₂ bit_xor p e
-      ∙ sym (ap (bit_steps (behind * 4)) (four_more n bits)
-      ∙ steps_xor (behind * 4) (bits_enter (n * 4) 0 bits) (nibble_entry n i)
-      ∙ ap (bit_xor (brought n)) (steps_join ((n + 1) * 4) (behind * 4) (i * 2 ^ 28) ∙ ap (λ w. bit_steps w (i * 2 ^ 28)) q))
-
-  pub first_four : {four : ℕ} → four ≡ nibble_entry behind (bits % 16) → four ≡ brought 1
-  unfolding bits_enter
-  first_four {four} e =
-      sym (xor_zero_l four)
-      ∙ next_four 0 (sym (steps_zero (behind * 4)))
-      (e ∙ ap₂ (λ j b. nibble_entry j (b % 16)) (sym (zero-add behind)) (sym (div-one bits)))
+pub next_four : (behind bits n : ℕ) → bit_xor (bit_steps (behind * 4) (bits_enter (n * 4) 0 bits)) (nibble_entry (n + behind) (bits / 2 ^ (n * 4) % 16))
+    ≡ bit_steps (behind * 4) (bits_enter ((n + 1) * 4) 0 bits)
+next_four behind bits n =
+    let i : ℕ = bits / 2 ^ (n * 4) % 16 in
+    let q : (n + 1) * 4 + behind * 4 ≡ (n + behind + 1) * 4 = omega arith in
+    sym (ap (bit_steps (behind * 4)) (four_more n bits)
+    ∙ steps_xor (behind * 4) (bits_enter (n * 4) 0 bits) (nibble_entry n i)
+    ∙ ap (bit_xor (bit_steps (behind * 4) (bits_enter (n * 4) 0 bits)))
+    (steps_join ((n + 1) * 4) (behind * 4) (i * 2 ^ 28) ∙ ap (λ w. bit_steps w (i * 2 ^ 28)) q))
 
 -- ---- the register
 
@@ -98,3 +90,13 @@ register_added register n h =
     (sym (enter_top 32 0 refl 0 register
     ∙ ap (bit_steps 32) (xor_zero_l (register % 2 ^ 32 * 1) ∙ mul-one (register % 2 ^ 32) ∙ mod-eq_of_lt h)))
     ∙ sym (enter_xor 32 0 0 register n)
+
+-- 32 bits enter, and then 32 more
+pub two_words : (register first second : ℕ) → register < 2 ^ 32
+    → bit_xor (bit_steps 0 (bits_enter 32 0 second)) (bit_steps 32 (bits_enter 32 0 (bit_xor register first)))
+    ≡ bits_enter 32 (bits_enter 32 register first) second
+unfolding bit_steps
+two_words register first second h =
+    let ahead : ℕ = bits_enter 32 0 (bit_xor register first) in
+    xor_comm (bits_enter 32 0 second) (bit_steps 32 ahead) ∙ sym (enter_apart 32 ahead second)
+    ∙ ap (λ r. bits_enter 32 r second) (sym (register_added register first h))

@@ -1,7 +1,7 @@
 // Bit steps of ISO/IEC 13818-1, Annex A: eight bytes enter the register at once.
 #![tactic(auto)]
 
-ghost use Rattle.std.specs.Prelude.{◌≡◌, ◌%◌, ◌<◌, get_or};
+ghost use Rattle.std.specs.Prelude.{◌≡◌, ◌*◌, ◌%◌, ◌<◌, ◌≤◌};
 ghost use Rattle.crc_steps.specs.BitSteps.{bit_steps, bits_enter};
 ghost use Rattle.crc_steps.specs.StepTable.{nibble_entry, NibbleTables};
 
@@ -13,41 +13,25 @@ pub fn eight_bytes_enter(register: u32, first: u64, second: u64) -> u32
 }
 
 // The same, by tables. Only what `first` brings waits for the turn before, and so it is added last.
+#[tactic(auto, using(crate::proofs::Nibbles::two_words))]
 fn by_tables(tables: &[[u32; 16]; 16], register: u32, first: u64, second: u64) -> u32
     requires { NibbleTables tables.now }
     ensures { result ≡ bits_enter 32 (bits_enter 32 register first) second }
 {
-    four_last(tables, second) ^ four_ahead(tables, register as u64 ^ first)
+    four_bytes(tables, 0, second) ^ four_bytes(tables, 8, u64::from(register) ^ first)
 }
 
-// What four bytes bring into a register of zero: the sum of what each four bits of them bring.
-fn four_last(tables: &[[u32; 16]; 16], bytes: u64) -> u32
-    requires { NibbleTables tables.now }
-    ensures { result ≡ bits_enter 32 0 bytes }
+// What four bytes bring into a register of zero with so many times four bits behind them: the sum of what each four bits of them bring.
+#[tactic(auto, using(crate::proofs::Nibbles::no_four, crate::proofs::Nibbles::next_four))]
+fn four_bytes(tables: &[[u32; 16]; 16], behind: usize, bytes: u64) -> u32
+    requires { NibbleTables tables.now × (behind ≤ 8) }
+    ensures { result ≡ bit_steps (behind * 4) (bits_enter 32 0 bytes) }
 {
-    nibble(tables, 0, bytes)
-        ^ nibble(tables, 1, bytes >> 4)
-        ^ nibble(tables, 2, bytes >> 8)
-        ^ nibble(tables, 3, bytes >> 12)
-        ^ nibble(tables, 4, bytes >> 16)
-        ^ nibble(tables, 5, bytes >> 20)
-        ^ nibble(tables, 6, bytes >> 24)
-        ^ nibble(tables, 7, bytes >> 28)
-}
-
-// The same of four bytes that have four others behind them.
-fn four_ahead(tables: &[[u32; 16]; 16], bytes: u64) -> u32
-    requires { NibbleTables tables.now }
-    ensures { result ≡ bit_steps 32 (bits_enter 32 0 bytes) }
-{
-    nibble(tables, 8, bytes)
-        ^ nibble(tables, 9, bytes >> 4)
-        ^ nibble(tables, 10, bytes >> 8)
-        ^ nibble(tables, 11, bytes >> 12)
-        ^ nibble(tables, 12, bytes >> 16)
-        ^ nibble(tables, 13, bytes >> 20)
-        ^ nibble(tables, 14, bytes >> 24)
-        ^ nibble(tables, 15, bytes >> 28)
+    let mut sum = 0;
+    for n in 0..8 {
+        sum ^= nibble(tables, n + behind, bytes >> (n * 4));
+    }
+    sum
 }
 
 // What the last four bits of i bring with j times four bits behind them.
@@ -55,32 +39,7 @@ fn nibble(tables: &[[u32; 16]; 16], j: usize, i: u64) -> u32
     requires { NibbleTables tables.now × (j < 16) }
     ensures { result ≡ nibble_entry j (i % 16) }
 {
-    picked(tables[j], i)
-}
-
-// The row's entry for the last four bits of i. Of a row that is known when this is compiled, the `match` becomes a table in read-only data; an
-// index would copy the row, and all that it was taken from, to the stack in each call.
-fn picked(row: [u32; 16], i: u64) -> u32
-    ensures { result ≡ get_or row (i % 16) 0 }
-{
-    match i % 16 {
-        0 => row[0],
-        1 => row[1],
-        2 => row[2],
-        3 => row[3],
-        4 => row[4],
-        5 => row[5],
-        6 => row[6],
-        7 => row[7],
-        8 => row[8],
-        9 => row[9],
-        10 => row[10],
-        11 => row[11],
-        12 => row[12],
-        13 => row[13],
-        14 => row[14],
-        _ => row[15],
-    }
+    tables[j][(i % 16) as usize]
 }
 
 // Entry i of table j is 4 * (j + 1) bit steps on i placed in the top four bits: what i brings with j times four bits behind it.

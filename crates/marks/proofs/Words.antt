@@ -1,16 +1,21 @@
 -- A word with a one at a place, place by place. Assumes nothing.
 use Prim.Native.Nat.{ℕ, suc, zero, ◌+◌, ◌-◌, ◌*◌, ◌/◌, ◌%◌, ◌^◌, ◌<◌, max}
 use mathlib.Core.Path.{◌≡◌, refl, sym, ◌∙◌, ap}
-use mathlib.Core.Bool.{true, false}
+use mathlib.Core.Bool.{true, false, not}
+use mathlib.Core.List.{List, [], ◌∷◌}
 use mathlib.Core.Logic.{◌⊎◌, inl, inr, ⊎_elim}
 use native.Mathlib.Omega.{arith}
 use native.Mathlib.Nat.{mod-eq_of_lt, one-mul, div_self, div-eq_of_lt, mul-div_cancel, mul-mod_left, pow-suc, div-div-eq-div-mul, pow-succ', two-pow-succ, div-one, zero-div}
 use lib.Pow.{pow-lt, pow_pos, pow-add}
+use lib.Dec.{eqb}
+use lib.ListN.{length}
+use lib.Pointwise.{pointwise}
 use lib.Bits.{bit_or, or_shr, or_step, or_lt}
 use borrow.Author.Tests.{eq-eqb, eqb-true, eqb-false}
-use Rattle.fields.specs.Choice.{◌is◌}
+use Rattle.fields.specs.Choice.{◌is◌, when◌then◌else◌}
 use Rattle.fields.proofs.Choices.{by_test}
-use Rattle.marks.specs.Marks.{bit, with_bit}
+use Rattle.marks.specs.Marks.{bit, with_bit, any_marked}
+use Rattle.marks.specs.declared.Marks.{Marks}
 
 -- one moved up by a place is the power
 pub one_at : (place : ℕ) → place < 64 → 1 * 2 ^ place % 2 ^ 64 ≡ 2 ^ place
@@ -92,3 +97,20 @@ same_bits (suc size) a b ha hb same =
     same_bits size (a / 2) (b / 2) (omega arith) (omega arith) (λ k h. simp half_at (same (suc k) (omega arith))) in
     let last : a % 2 ≡ b % 2 = same_last (a % 2) (b % 2) (omega arith) (omega arith) (simp div-one at (same 0 (omega arith))) in
     omega arith
+
+-- ---- four words that are not all 0
+
+any_of_list : (words : List ℕ) → length words ≡ 4 → not (pointwise eqb words (0 ∷ 0 ∷ 0 ∷ 0 ∷ [])) ≡ any_marked (record { words = words })
+unfolding any_marked when◌then◌else◌
+any_of_list (a ∷ b ∷ c ∷ d ∷ []) h =
+    by_test (eqb a 0)
+    (λ p. by_test (eqb b 0) (λ q. by_test (eqb c 0) (λ r. by_test (eqb d 0) (λ t. simp (p, q, r, t)) (λ t. simp (p, q, r, t))) (λ r. simp (p, q, r))) (λ q. simp (p, q)))
+    (λ p. simp p)
+any_of_list [] h = absurd (omega arith)
+any_of_list (a ∷ []) h = absurd (omega arith)
+any_of_list (a ∷ b ∷ []) h = absurd (omega arith)
+any_of_list (a ∷ b ∷ c ∷ []) h = absurd (omega arith)
+any_of_list (a ∷ b ∷ c ∷ d ∷ e ∷ words) h = absurd (omega arith)
+
+pub any_of_four : (marks : Marks) → length marks.words ≡ 4 → not (pointwise eqb marks.words (0 ∷ 0 ∷ 0 ∷ 0 ∷ [])) ≡ any_marked marks
+any_of_four marks four = any_of_list marks.words four

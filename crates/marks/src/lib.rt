@@ -5,7 +5,7 @@ ghost use Rattle.std.specs.Prelude.{◌≡◌};
 ghost use Rattle.marks.specs.Marks.{no_marks, any_marked, marked, with_mark};
 
 // Four words of 64: the mark of a number is a bit of one of them.
-#[derive(Clone, Copy)]
+#[derive(Clone, Copy, PartialEq, Eq, Debug)]
 pub struct Marks {
     pub words: [u64; 4],
 }
@@ -18,34 +18,30 @@ impl Marks {
     }
 
     // Whether any number is marked.
+    #[tactic(auto, using(crate::proofs::Words::any_of_four))]
     pub fn any(self) -> bool
         ensures { result ≡ any_marked self }
     {
-        if self.words[0] == 0 {
-            if self.words[1] == 0 {
-                if self.words[2] == 0 {
-                    return self.words[3] != 0;
-                }
-            }
-        }
-        true
+        self.words != [0; 4]
     }
 
+    #[tactic(auto, unfolding(crate::specs::Marks::bit, crate::specs::Marks::marked))]
     pub fn marked(self, number: u8) -> bool
         ensures { result ≡ marked self number }
     {
-        let word = (number / 64) as usize;
+        let word = usize::from(number / 64);
         let place = number % 64;
         (self.words[word] >> place) % 2 == 1
     }
 
+    #[tactic(auto, using(crate::proofs::Words::one_at), unfolding(crate::specs::Marks::with_bit, crate::specs::Marks::with_mark))]
     pub fn with_mark(self, number: u8) -> Marks
         ensures { result ≡ with_mark self number }
     {
-        let word = (number / 64) as usize;
+        let word = usize::from(number / 64);
         let place = number % 64;
         let mut words = self.words;
-        words[word] = words[word] | (1 << place);
+        words[word] |= 1 << place;
         Marks { words }
     }
 }

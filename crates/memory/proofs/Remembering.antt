@@ -133,7 +133,7 @@ unfolding when◌then◌else◌
 marked_of_either true marks k = refl
 marked_of_either false marks k = none_marked k
 
-marked_for : (memory : Memory) (label : Label) (k : ℕ)
+pub marked_for : (memory : Memory) (label : Label) (k : ℕ)
     → marked (marks_for memory label) k ≡ (when agrees memory label then marked memory.marks k else false)
 unfolding marks_for
 marked_for memory label k = marked_of_either (agrees memory label) memory.marks k

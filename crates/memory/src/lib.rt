@@ -9,7 +9,7 @@ use answers::Answer;
 use labels::Label;
 use marks::Marks;
 
-#[derive(Clone, Copy)]
+#[derive(Clone, Copy, PartialEq, Eq, Debug)]
 pub enum Form {
     Compact,
     Full,
@@ -17,7 +17,7 @@ pub enum Form {
 }
 
 // What ONCE remembers of the sections that it delivered: the four numbers that they have in common, and a mark for the number of each. All zero is none.
-#[derive(Clone, Copy)]
+#[derive(Clone, Copy, PartialEq, Eq, Debug)]
 pub struct Memory {
     pub table_id: u8,
     pub id: u16,
@@ -40,82 +40,69 @@ impl Memory {
     }
 
     // Whether the four numbers are the label's.
+    #[tactic(auto, using(fields::proofs::Choices::choices), unfolding(crate::specs::Memory::agrees))]
     fn agrees(self, label: Label) -> bool
         ensures { result ≡ agrees self label }
     {
-        if self.table_id == label.table_id {
-            if self.id == label.id {
-                if self.version == label.version {
-                    if self.current_next_indicator {
-                        return label.current_next_indicator;
-                    }
-                    return !label.current_next_indicator;
-                }
-            }
-        }
-        false
+        self.table_id == label.table_id
+            && self.id == label.id
+            && self.version == label.version
+            && self.current_next_indicator == label.current_next_indicator
     }
 
     // The marks that were put for the label's four numbers.
+    #[tactic(auto, using(fields::proofs::Choices::choices), unfolding(crate::specs::Memory::marks_for))]
     fn marks_for(self, label: Label) -> Marks
         ensures { result ≡ marks_for self label }
     {
         if self.agrees(label) {
-            return self.marks;
+            self.marks
+        } else {
+            Marks::none()
         }
-        Marks::none()
     }
 
     // The four numbers of the section, and its mark beside those that were put for the same four.
     fn remembering(self, label: Label) -> Memory
         ensures { result ≡ remembering self label }
     {
-        let marks = self.marks_for(label);
         Memory {
             table_id: label.table_id,
             id: label.id,
             version: label.version,
             current_next_indicator: label.current_next_indicator,
-            marks: marks.with_mark(label.section_number),
+            marks: self.marks_for(label).with_mark(label.section_number),
         }
     }
 
+    #[tactic(auto, unfolding(crate::specs::Memory::on_delivery))]
     fn on_delivery(self, form: Form, section: &[u8]) -> Memory
         ensures { result ≡ on_delivery form self section.now }
     {
         match form {
-            Form::Compact => self,
-            Form::Full => self,
+            Form::Compact | Form::Full => self,
             Form::Once => self.remembering(Label::of(section)),
         }
     }
 
     // What is remembered after a step with this answer, which delivered this section.
+    #[tactic(auto, using(fields::proofs::Choices::choices), unfolding(crate::specs::Memory::after_answer))]
     pub fn after(self, answer: u8, form: Form, section: &[u8]) -> Memory
         ensures { result ≡ after_answer answer form self section.now }
     {
-        if answer == Answer::DELIVERED {
-            return self.on_delivery(form, section);
+        match answer {
+            Answer::DELIVERED => self.on_delivery(form, section),
+            Answer::POINTER_BEYOND_REST | Answer::UNDER_3_BYTES => Memory::none(),
+            _ => self,
         }
-        if answer == Answer::POINTER_BEYOND_REST {
-            return Memory::none();
-        }
-        if answer == Answer::UNDER_3_BYTES {
-            return Memory::none();
-        }
-        self
     }
 
+    #[tactic(auto, using(fields::proofs::Choices::choices), unfolding(crate::specs::Memory::sound_memory))]
     pub fn is_sound(self, form: Form) -> bool
         ensures { result ≡ sound_memory form self }
     {
-        let marks = self.marks;
-        if marks.any() {
-            match form {
-                Form::Compact => false,
-                Form::Full => false,
-                Form::Once => self.version <= 31,
-            }
+        if self.marks.any() {
+            form == Form::Once && self.version <= 31
         } else {
             self.agrees(Label::none())
         }

@@ -1,23 +1,23 @@
 -- Five words: written one after another, and read again. Assumes nothing.
-use Prim.Native.Nat.{ℕ, suc, ◌+◌, ◌*◌, ◌/◌, ◌%◌, ◌^◌, ◌<◌}
+use Prim.Native.Nat.{ℕ, suc, ◌+◌, ◌*◌, ◌/◌, ◌%◌, ◌^◌, ◌<◌, ◌≤◌}
 use mathlib.Core.Path.{◌≡◌, refl, sym, ap, ◌∙◌}
-use mathlib.Core.Bool.{Bool, true, false, not, true≢false, false≢true}
+use mathlib.Core.Bool.{Bool, true, false, not, true≢false}
 use mathlib.Core.List.{List, [], ◌∷◌}
 use native.Mathlib.Omega.{arith}
-use lib.ListN.{length, get_or, set}
+use lib.ListN.{length, get_or}
 use borrow.Author.Tests.{eq-eqb, ne_eqb, eqb-true, eqb-false}
 use mir.Val.{bool_byte}
 use Rattle.fields.specs.Choice.{when◌then◌else◌, ◌is◌}
 use Rattle.fields.proofs.Choices.{test_holds, test_fails, second_chosen, of_both, of_either, either_way, by_test, and_holds}
-use Rattle.answers.specs.Numbers.{delivered}
-use Rattle.marks.specs.Marks.{no_marks, marked}
+use Rattle.answers.specs.Numbers.{delivered, pointer_beyond_rest, under3_bytes}
+use Rattle.marks.specs.Marks.{no_marks}
 use Rattle.marks.specs.declared.Marks.{Marks}
 use Rattle.labels.specs.Label.{label_of}
 use Rattle.labels.specs.declared.Label.{Label}
 use Rattle.memory.specs.declared.Form.{Form}
 use Rattle.memory.specs.declared.Memory.{Memory}
-use Rattle.memory.specs.Memory.{no_memory, agrees, repeats, marks_for, remembering, on_delivery, after_answer}
-use Rattle.memory.proofs.Remembering.{memory_stays, nothing_repeats, Agreeing, agreeing, agrees_if}
+use Rattle.memory.specs.Memory.{no_memory, agrees, marks_for, remembering, on_delivery, after_answer}
+use Rattle.memory.proofs.Remembering.{memory_stays, Agreeing, agreeing, agrees_if}
 use Rattle.memory_words.specs.Words.{memory_words, word, numbers_of, numbers_in, words_of, memory_in, agree, put, written, remembers, words_after}
 
 -- a bool as a byte
@@ -25,10 +25,6 @@ pub byte_is_1_or_0 : (b : Bool) → bool_byte b ≡ (when b then 1 else 0)
 unfolding when◌then◌else◌
 byte_is_1_or_0 true = refl
 byte_is_1_or_0 false = refl
-
-pub byte_below_2 : (b : Bool) → bool_byte b < 2
-byte_below_2 true = omega arith
-byte_below_2 false = omega arith
 
 -- ---- written one after another
 
@@ -45,16 +41,6 @@ uncons n (first ∷ rest) l = record { first = first; rest = rest; made = refl; 
 none_left : (rest : List ℕ) → length rest ≡ 0 → rest ≡ []
 none_left [] l = refl
 none_left (first ∷ rest) l = absurd (let m = l in omega arith)
-
-pub five_written : (words : List ℕ) → length words ≡ memory_words → (a b c d e : ℕ)
-    → set (set (set (set (set words 0 a) 1 b) 2 c) 3 d) 4 e ≡ a ∷ b ∷ c ∷ d ∷ e ∷ []
-five_written words l a b c d e =
-    let u0 = uncons 4 words l in
-    let u1 = uncons 3 u0.rest u0.long in
-    let u2 = uncons 2 u1.rest u1.long in
-    let u3 = uncons 1 u2.rest u2.long in
-    let u4 = uncons 0 u3.rest u3.long in
-    rw (u0.made, u1.made, u2.made, u3.made, u4.made, none_left u4.rest u4.long) refl
 
 -- ---- a memory, written and read again
 
@@ -207,10 +193,10 @@ words_remember answer words section range =
 
 -- ---- four numbers, compared as one word
 
-pub record LabelFits (label : Label) : Type 0 where
-  pub byte : label.table_id < 256
-  pub bytes : label.id < 65536
-  pub version : label.version < 256
+record LabelFits (label : Label) : Type 0 where
+  byte : label.table_id < 256
+  bytes : label.id < 65536
+  version : label.version < 256
 
 same_bit : (a b : Bool) → ◌≡◌ {A = ℕ} (when a then 1 else 0) (when b then 1 else 0) → a ≡ b
 same_bit a b e = sym (flag_again a) ∙ ap (λ (n : ℕ). n is 1) e ∙ flag_again b
@@ -228,9 +214,10 @@ same_numbers : (memory : Memory) (label : Label) → Agreeing memory label → n
 same_numbers memory label same = rw (same.table_id, same.id, same.version, same.current) refl
 
 -- the words' four numbers are the label's exactly if their word is
-pub agree_by_word : (words : List ℕ) (label : Label) → LabelFits label → length words ≡ memory_words
-    → agree words label ≡ (word words 0 % 2 ^ 33 is numbers_in label)
-agree_by_word words label fits five =
+pub agree_by_word : (words : List ℕ) (label : Label) → label.table_id < 256 → label.id < 65536 → label.version < 256
+    → length words ≡ memory_words → agree words label ≡ (word words 0 % 2 ^ 33 is numbers_in label)
+agree_by_word words label byte bytes version five =
+    let fits : LabelFits label = record { byte = byte; bytes = bytes; version = version } in
     let its = numbers_in_words words five in
     test_holds _ _ _ (eq-eqb _ _ five)
     ∙ by_test (agrees (memory_in words) label)
@@ -261,34 +248,40 @@ delivered_words answer words section e =
     (λ five. rw five refl)
     (λ few. rw few (sym (not_five_stay _ _ words (eqb-false _ _ few)))))
 
--- 9 and 10, of which one is the answer where the words change and the answer is not 2
-forgets : (answer : ℕ) (words section : List ℕ) → (answer ≡ delivered → ⊥) → remembers words answer ≡ true
-    → after_answer answer Form.Once (memory_in words) section ≡ no_memory
-unfolding remembers after_answer
-forgets answer words section not2 h =
-    test_fails _ _ _ (ne_eqb _ _ not2)
-    ∙ either_way _ _ _ _ h (λ few f. absurd (false≢true f))
-    (λ five g. either_way _ _ _ _ g (λ is2 f. absurd (not2 (eqb-true _ _ is2)))
-    (λ other g. either_way _ _ _ _ g (λ is9 f. test_holds _ _ _ is9) (λ not9 is10. test_fails _ _ _ not9 ∙ test_holds _ _ _ is10)))
-
-pub forgotten_words : (answer : ℕ) (words section : List ℕ) → (answer ≡ delivered → ⊥) → remembers words answer ≡ true
-    → words_after answer words section ≡ put 0 no_marks words
+-- 9 and 10 forget all
+forgotten_at : (answer : ℕ) (words section : List ℕ) → remembers words answer ≡ (length words is memory_words)
+    → after_answer answer Form.Once (memory_in words) section ≡ no_memory → words_after answer words section ≡ put 0 no_marks words
 unfolding words_after when◌then◌else◌
-forgotten_words answer words section not2 h =
-    rw h (ap (λ (m : Memory). written m words) (forgets answer words section not2 h))
+forgotten_at answer words section e none =
+    rw (e, none)
+    (of_either (λ (l : List ℕ). l ≡ put 0 no_marks words) _ _ _ (λ five. refl) (λ few. sym (not_five_stay _ _ words (eqb-false _ _ few))))
+
+remembers_9 : (words : List ℕ) → remembers words pointer_beyond_rest ≡ (length words is memory_words)
+unfolding remembers when◌then◌else◌
+remembers_9 words = by_test (length words is memory_words) (λ five. rw five refl) (λ few. rw few refl)
+
+remembers_10 : (words : List ℕ) → remembers words under3_bytes ≡ (length words is memory_words)
+unfolding remembers when◌then◌else◌
+remembers_10 words = by_test (length words is memory_words) (λ five. rw five refl) (λ few. rw few refl)
+
+pub forgotten_words : (answer : ℕ) (words section : List ℕ) → pointer_beyond_rest ≤ answer → answer ≤ under3_bytes
+    → words_after answer words section ≡ put 0 no_marks words
+unfolding after_answer when◌then◌else◌
+forgotten_words answer words section h l =
+    by_test (answer is pointer_beyond_rest)
+    (λ t. rw (eqb-true _ _ t) (forgotten_at _ words section (remembers_9 words) refl))
+    (λ t.
+    let other = eqb-false _ _ t in
+    let e : answer ≡ under3_bytes = omega arith in
+    rw e (forgotten_at _ words section (remembers_10 words) refl))
 
 pub words_stay : (answer : ℕ) (words section : List ℕ) → remembers words answer ≡ false → words_after answer words section ≡ words
 unfolding words_after
 words_stay answer words section h = test_fails _ _ _ h
 
-module _ (form : Form) (words bytes : List ℕ) (is_once : form ≡ Form.Once) where
-  pub repeated_if_agreed : agree words (label_of bytes) ≡ true
-      → repeats form (memory_in words) bytes ≡ marked (memory_in words).marks (label_of bytes).section_number
-  unfolding repeats
-  repeated_if_agreed h = rw is_once (test_holds _ _ _ (and_holds _ _ h).1)
-
-  pub not_repeated : agree words (label_of bytes) ≡ false → repeats form (memory_in words) bytes ≡ false
-  unfolding repeats memory_in
-  not_repeated h =
-      either_way _ _ _ _ h (λ five other. rw is_once (test_fails _ _ _ other))
-      (λ few f. rw (test_holds _ no_memory _ (ap not few)) (nothing_repeats form bytes))
+pub other_answers : (answer : ℕ) (words section : List ℕ) → (answer ≡ delivered → ⊥) → (answer ≡ pointer_beyond_rest → ⊥)
+    → (answer ≡ under3_bytes → ⊥) → words_after answer words section ≡ words
+unfolding remembers
+other_answers answer words section not2 not9 not10 =
+    words_stay answer words section
+    (of_both (λ b. b ≡ false) _ _ _ refl (test_fails _ _ _ (ne_eqb _ _ not2) ∙ test_fails _ _ _ (ne_eqb _ _ not9) ∙ ne_eqb _ _ not10))

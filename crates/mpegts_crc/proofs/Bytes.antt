@@ -3,21 +3,22 @@
 use mathlib.Core.Path.{◌≡◌, refl, sym, ap, ap₂, ◌∙◌, subst}
 use mathlib.Core.List.{List, [], ◌∷◌, ◌++◌}
 use Prim.Native.Nat.{ℕ, zero, suc, ◌+◌, ◌-◌, ◌*◌, ◌/◌, ◌%◌, ◌^◌, ◌<◌, ◌≤◌}
-use native.Mathlib.Nat.{zero-add, zero-mul, suc-mul, div-eq_of_lt, mod-eq_of_lt}
+use native.Mathlib.Nat.{zero-mul, suc-mul}
 use native.Mathlib.Numerals.{add-one}
 use native.Mathlib.Omega.{arith}
 use lib.Arith.{digits_div, digits_mod}
+use lib.Bits.{bit_xor}
 use lib.Dec.{lit<}
-use lib.Pow.{shr_lt}
-use lib.ListN.{length, get_or, take, drop, length-drop, take-append-drop, drop_of_length-le}
-use lib.Seq.{take-suc, drop-cons, drop-drop, get_or-drop}
+use lib.ListN.{length, get_or, take, drop, length-drop, take-append-drop, length-append, drop_of_length-le}
+use lib.Seq.{take-suc, take_all, drop-cons, drop-drop, drop_at, get_or-drop}
 use Rattle.fields.specs.BitString.{number_at}
 use Rattle.fields.specs.Word.{word_of}
-use Rattle.fields.proofs.BitStrings.{byte_more, cut, number_at_lt}
+use Rattle.fields.proofs.BitStrings.{byte_more}
 use Rattle.fields.proofs.SyntaxTables.{word_there}
 use Rattle.crc_steps.specs.BitSteps.{bits_enter}
+use Rattle.crc_steps.specs.StepTable.{entry_of}
 use Rattle.mpegts_crc.specs.Crc.{all_ones, crc_from, crc_of}
-use Rattle.crc_steps.proofs.Steps.{enter_lt, enter_join, enter_mod}
+use Rattle.crc_steps.proofs.Steps.{enter_lt, enter_join, enter_mod, index_lt, table_step}
 
 pub crc_append : (register : ℕ) (xs ys : List ℕ) → crc_from register (xs ++ ys) ≡ crc_from (crc_from register xs) ys
 unfolding crc_from
@@ -43,58 +44,53 @@ word_enters (suc n) register bytes l h =
     ∙ enter_mod 8 24 refl (bits_enter (n * 8) register (all / 256)) all ∙ enter_join (n * 8) 8 register all
     ∙ ap₂ (λ w x. bits_enter w register x) (sym (suc-mul n 8)) (sym (byte_more bytes n l (h n)) ∙ ap (λ w. number_at 0 w bytes) e)
 
--- of eight bytes the last go out as far as their number is moved down
-pub last_out : (bytes : List ℕ) (out : ℕ) → out ≤ 8 → 8 ≤ length bytes
-    → word_of bytes 0 8 / 2 ^ (out * 8) ≡ number_at 0 ((8 - out) * 8) bytes
-last_out bytes out m l =
-    let left : ℕ = (8 - out) * 8 in
-    let q : left + out * 8 ≡ 64 = omega arith in
-    let all : ℕ = number_at 0 64 bytes in
-    let all< : all < 2 ^ (left + out * 8) = subst (λ w. all < 2 ^ w) (sym q) (number_at_lt bytes 0 64 (omega arith)) in
-    ap (λ n. n / 2 ^ (out * 8)) (word_there bytes 0 8 (omega arith) l)
-    ∙ sym (cut bytes 0 left (out * 8) (omega arith)
-    ∙ ap (λ w. number_at 0 w bytes / 2 ^ (out * 8) % 2 ^ left) (ap (λ w. w + out * 8) (zero-add left) ∙ q)
-    ∙ mod-eq_of_lt (shr_lt left (out * 8) all<))
+-- what turns of eight bytes leave of all
+pub record Left (bytes left : List ℕ) : Type 0 where
+  pub fits : length left ≤ length bytes
+  pub eights : length left % 8 ≡ length bytes % 8
+  pub end : left ≡ drop (length bytes - length left) bytes
 
--- the first turn: bytes of zero bring the register to all ones, and then the first bytes enter
-pub first_turn : {eight : ℕ} (register : ℕ) (bytes : List ℕ) (padding : ℕ) → padding ≤ 8 → 8 - padding ≤ length bytes
-    → ((i : ℕ) → get_or bytes i 0 < 256)
-    → bits_enter (padding * 8) register 0 ≡ all_ones → eight ≡ number_at 0 ((8 - padding) * 8) bytes
-    → crc_from (bits_enter 32 (bits_enter 32 register (eight / 2 ^ 32)) eight) (drop (8 - padding) bytes) ≡ crc_of bytes
-unfolding crc_of
-first_turn {eight} register bytes padding m l h start number =
-    let n : ℕ = 8 - padding in
-    let front : ℕ = number_at 0 (n * 8) bytes in
-    let q : 64 ≡ padding * 8 + n * 8 = omega arith in
-    ap (λ r. crc_from r (drop n bytes))
-    (enter_join 32 32 register eight
-    ∙ ap₂ (λ w x. bits_enter w register x) q number ∙ sym (enter_join (padding * 8) (n * 8) register front)
-    ∙ ap (λ r. bits_enter (n * 8) r front)
-    (ap (bits_enter (padding * 8) register) (div-eq_of_lt (number_at_lt bytes 0 (n * 8) (omega arith))) ∙ start)
-    ∙ sym (word_enters n all_ones bytes l h))
-    ∙ taken_then_dropped all_ones n bytes
+pub all_left : (bytes : List ℕ) → Left bytes bytes
+all_left bytes = record { fits = omega arith; eights = refl; end = ap (λ n. drop n bytes) (let e : 0 ≡ length bytes - length bytes = omega arith in e) }
 
--- a turn over four bytes, which are one word, and over eight, which are two
-word_turn : {word whole : ℕ} (register : ℕ) (bytes : List ℕ) (at : ℕ) → at + 4 ≤ length bytes → ((i : ℕ) → get_or bytes i 0 < 256)
-    → word ≡ word_of bytes at 4 → crc_from register (drop at bytes) ≡ whole → crc_from (bits_enter 32 register word) (drop (at + 4) bytes) ≡ whole
-word_turn register bytes at l h read p =
-    let rest : List ℕ = drop at bytes in
-    ap₂ crc_from
-    (ap (bits_enter 32 register) (read ∙ word_there bytes at 4 (omega arith) l)
-    ∙ sym (word_enters 4 register rest (simp length-drop (omega arith))
-    (λ i. subst (λ b. b < 256) (sym (get_or-drop at bytes i 0)) (h (at + i)))))
-    (sym (drop-drop 4 at bytes))
-    ∙ taken_then_dropped register 4 rest ∙ p
+pub at_end : (bytes left : List ℕ) → Left bytes left → length left < 8 → left ≡ drop (length bytes - length bytes % 8) bytes
+at_end bytes left h l =
+    let e = h.eights in
+    let q : length left ≡ length bytes % 8 = omega arith in
+    h.end ∙ ap (λ n. drop (length bytes - n) bytes) q
 
-pub eight_turn : {first second whole : ℕ} (register : ℕ) (bytes : List ℕ) (at : ℕ) → at + 8 ≤ length bytes
-    → ((i : ℕ) → get_or bytes i 0 < 256) → first ≡ word_of bytes at 4 → second ≡ word_of bytes (at + 4) 4
-    → crc_from register (drop at bytes) ≡ whole
-    → crc_from (bits_enter 32 (bits_enter 32 register first) second) (drop (at + 8) bytes) ≡ whole
-eight_turn {first} {second} register bytes at l h read read' p =
-    let q : at + 8 ≡ at + 4 + 4 = omega arith in
-    let next : ℕ = bits_enter 32 register first in
-    ap (λ n. crc_from (bits_enter 32 next second) (drop n bytes)) q
-    ∙ word_turn next bytes (at + 4) (omega arith) h read' (word_turn register bytes at (omega arith) h read p)
+in_front : (xs ys : List ℕ) → ((i : ℕ) → get_or (xs ++ ys) i 0 < 256) → (i : ℕ) → get_or xs i 0 < 256
+in_front [] ys h i = omega arith
+in_front (x ∷ xs) ys h zero = h 0
+in_front (x ∷ xs) ys h (suc i) = in_front xs ys (λ i. h (suc i)) i
+
+module _ (bytes eight left : List ℕ) (h' : Left bytes (eight ++ left)) (l : length eight ≡ 8) where
+  pub eight_less : Left bytes left
+  eight_less =
+      let both : length (eight ++ left) ≡ 8 + length left = simp length-append (omega (arith, l)) in
+      let fits = h'.fits in
+      let eights = h'.eights in
+      record {
+        fits = omega arith;
+        eights = omega arith;
+        end = sym (drop_at eight left 8 l) ∙ ap (drop 8) h'.end ∙ drop-drop 8 _ bytes ∙ ap (λ n. drop n bytes) (omega arith);
+      }
+
+  -- eight bytes are two words
+  pub eight_turn : {whole : ℕ} (register : ℕ) → ((i : ℕ) → get_or bytes i 0 < 256) → crc_from register (eight ++ left) ≡ whole
+      → crc_from (bits_enter 32 (bits_enter 32 register (word_of eight 0 4)) (word_of eight 4 4)) left ≡ whole
+  eight_turn register h p =
+      let back : List ℕ = drop 4 eight in
+      let four : 4 ≤ length back = simp length-drop (omega arith) in
+      let small : (i : ℕ) → get_or eight i 0 < 256 =
+      in_front eight left (λ i. subst (λ b. b < 256) (sym (ap (λ bs. get_or bs i 0) h'.end ∙ get_or-drop _ bytes i 0)) (h _)) in
+      ap (λ r. crc_from r left)
+      (ap₂ (λ x y. bits_enter 32 (bits_enter 32 register x) y) (word_there eight 0 4 (omega arith) (omega arith)) (word_there eight 4 4 (omega arith) (omega arith))
+      ∙ ap (λ r. bits_enter 32 r (number_at 0 32 back)) (sym (word_enters 4 register eight (omega arith) small))
+      ∙ sym (word_enters 4 (crc_from register (take 4 eight)) back four (λ i. subst (λ b. b < 256) (sym (get_or-drop 4 eight i 0)) (small (4 + i))))
+      ∙ ap (crc_from (crc_from register (take 4 eight))) (take_all 4 back (simp length-drop (omega arith)))
+      ∙ taken_then_dropped register 4 eight)
+      ∙ sym (crc_append register eight left) ∙ p
 
 -- a turn over one byte: the byte at i takes the register to next, and whole is what is to come out
 pub byte_turn : {next whole : ℕ} (register : ℕ) (bytes : List ℕ) (i : ℕ) → i < length bytes
@@ -115,3 +111,14 @@ from_lt register (byte ∷ bytes) h = from_lt (bits_enter 8 register byte) bytes
 pub crc_lt : (bytes : List ℕ) → crc_of bytes < 2 ^ 32
 unfolding crc_of
 crc_lt bytes = from_lt all_ones bytes (lit< tt)
+
+-- ---- a byte by the table: its place there, and the step
+
+pub place_lt : (register byte : ℕ) → register < 2 ^ 32 → byte < 2 ^ 8 → bit_xor (register / 2 ^ 24) byte < 2 ^ 8
+place_lt register byte h k = index_lt 8 24 refl h k
+
+pub byte_step : (register byte : ℕ) → byte < 2 ^ 8
+    → bit_xor (register * 2 ^ 8 % 2 ^ 32) (entry_of 8 (bit_xor (register / 2 ^ 24) byte)) ≡ bits_enter 8 register byte
+byte_step register byte h = sym (table_step 8 24 refl register byte h)
+
+pub ruleset turns = (all_left, at_end, byte_turn, done)

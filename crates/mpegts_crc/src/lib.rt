@@ -1,88 +1,38 @@
 // The 32-bit CRC of ISO/IEC 13818-1, Annex A, eight bytes at a time.
 #![tactic(auto)]
 
-ghost use Rattle.std.specs.Prelude.{◌≡◌, ◌-◌, ◌*◌, ◌<◌, ◌≤◌, length};
-ghost use Rattle.fields.specs.BitString.{number_at};
+ghost use Rattle.std.specs.Prelude.{◌≡◌};
 ghost use Rattle.crc_steps.specs.BitSteps.{bits_enter};
 ghost use Rattle.crc_steps.specs.StepTable.{StepTable};
-ghost use Rattle.mpegts_crc.specs.Crc.{all_ones, crc_of};
+ghost use Rattle.mpegts_crc.specs.Crc.{crc_of};
 
 use crc_steps::eight_bytes_enter;
 use fields::word;
 
-// The CRC of the bytes, however many.
+// The CRC of the bytes, however many: eight bytes a turn, and those that make no eight one by one.
+#[tactic(auto, using(crate::proofs::Bytes::turns), unfolding(crate::specs::Crc::crc_of))]
 pub fn sum32(data: &[u8]) -> u32
     ensures { result ≡ crc_of «data».now }
 {
-    if data.len() < 8 {
-        return byte_by_byte(data);
+    let eights = data.chunks_exact(8);
+    let rest = eights.remainder();
+    let mut register = 0xffff_ffff;
+    for eight in eights {
+        register = eight_bytes_enter(register, word(eight, 0, 4), word(eight, 4, 4));
     }
-    by_eights(data)
-}
-
-// The same byte by byte, as the crate has it.
-fn byte_by_byte(data: &[u8]) -> u32
-    ensures { result ≡ crc_of «data».now }
-{
-    let mut register: u32 = 0xffff_ffff;
-    for i in 0..data.len() {
-        register = byte_enters(&CRC_TABLE, register, data[i]);
+    for &byte in rest {
+        register = byte_enters(&CRC_TABLE, register, byte);
     }
     register
 }
 
 // The register after one more byte.
+#[tactic(auto, using(crate::proofs::Bytes::place_lt, crate::proofs::Bytes::byte_step))]
 fn byte_enters(table: &[u32; 256], register: u32, byte: u8) -> u32
     requires { StepTable 8 table.now }
     ensures { result ≡ bits_enter 8 register byte }
 {
     (register << 8) ^ table[((register >> 24) ^ byte as u32) as usize]
-}
-
-// The same eight bytes a turn. Bytes of zero ahead of them pad them to a multiple of eight.
-fn by_eights(data: &[u8]) -> u32
-    requires { 8 ≤ length «data».now }
-    ensures { result ≡ crc_of «data».now }
-{
-    let padding = (8 - data.len() % 8) % 8;
-    let mut register = start(padding);
-    let mut second = padded(data, padding);
-    let mut first = second >> 32;
-    let mut at = 8 - padding;
-    loop {
-        register = eight_bytes_enter(register, first, second);
-        if data.len() - at < 8 {
-            return register;
-        }
-        first = word(data, at, 4);
-        second = word(data, at + 4, 4);
-        at += 8;
-    }
-}
-
-// The register that so many bytes of zero bring to all ones, where the CRC starts.
-fn start(padding: usize) -> u32
-    requires { padding < 8 }
-    ensures { bits_enter (padding * 8) result 0 ≡ all_ones }
-{
-    match padding {
-        0 => 0xffff_ffff,
-        1 => 0x9bf1_a90f,
-        2 => 0x09b9_3859,
-        3 => 0x8164_74c5,
-        4 => 0x46af_6449,
-        5 => 0x339f_de2f,
-        6 => 0x68b9_32f5,
-        _ => 0x955a_6162,
-    }
-}
-
-// The first bytes, which are eight with the padding ahead of them, as one number.
-fn padded(data: &[u8], padding: usize) -> u64
-    requires { (padding < 8) × (8 ≤ length «data».now) }
-    ensures { result ≡ number_at 0 ((8 - padding) * 8) «data».now }
-{
-    word(data, 0, 8) >> (padding * 8)
 }
 
 // Entry i is eight bit steps on i placed in the top byte. The table is lent: by value it would be copied at each use.

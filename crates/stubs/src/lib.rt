@@ -3,35 +3,20 @@
 #![tactic(auto)]
 
 ghost use Rattle.std.specs.Prelude.{◌≡◌};
-ghost use Rattle.reader.specs.Outcome.{outcome, answered};
+ghost use Rattle.reader.specs.Outcome.{outcome, step_says};
 ghost use Rattle.reader.specs.Tail.{tail_of};
 ghost use Rattle.reader.specs.Head.{head_of};
 
-use reader::{Holder, Place, Reader, Step};
+use reader::{Reader, Step};
 
 fn tail(reader: Reader, packet: &[u8], buffer: &mut [u8]) -> Step
-    ensures { outcome result buffer.new ≡ tail_of reader packet.now buffer.old }
+    ensures { outcome (step_says result) buffer.new ≡ tail_of reader packet.now buffer.old }
 {
     reader.tail(packet, buffer)
 }
 
 fn head(reader: Reader, packet: &[u8], buffer: &mut [u8]) -> Step
-    ensures { outcome result buffer.new ≡ head_of reader packet.now buffer.old }
+    ensures { outcome (step_says result) buffer.new ≡ head_of reader packet.now buffer.old }
 {
     reader.head(packet, buffer)
-}
-
-// What a stub answers: this number and this state, and no section.
-fn answered(answer: u8, reader: Reader) -> Step
-    ensures { result ≡ answered answer reader }
-{
-    Step {
-        reader,
-        place: Place {
-            holder: Holder::Nowhere,
-            start: 0,
-            len: 0,
-        },
-        answer,
-    }
 }

@@ -3,8 +3,8 @@ use mathlib.Core.Path.{sym, ap, ◌∙◌}
 use Rattle.adaptation_parts.specs.Parts.{splice_countdown_says}
 use Rattle.capi_adaptation_fields.proofs.jambpepper_splice_countdown.Goals as goal
 
-pub returns-in-Is : goal.returns-in-Is
-returns-in-Is c = simp (sym (sym (ap splice_countdown_says c.in-Is.is) ∙ c.splice_countdown.ensures))
+pub returns-in-Ok : goal.returns-in-Ok
+returns-in-Ok c = simp (sym (sym (ap splice_countdown_says c.in-Ok.is) ∙ c.splice_countdown.ensures))
 
-pub returns-in-Refused : goal.returns-in-Refused
-returns-in-Refused c = simp (c.number.ensures, sym (sym (ap splice_countdown_says c.in-Refused.is) ∙ c.splice_countdown.ensures))
+pub returns-in-Err : goal.returns-in-Err
+returns-in-Err c = simp (c.number.ensures, sym (sym (ap splice_countdown_says c.in-Err.is) ∙ c.splice_countdown.ensures))

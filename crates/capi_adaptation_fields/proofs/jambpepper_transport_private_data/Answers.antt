@@ -3,8 +3,8 @@ use mathlib.Core.Path.{sym, ap, ◌∙◌}
 use Rattle.adaptation_parts.specs.Parts.{transport_private_data_says}
 use Rattle.capi_adaptation_fields.proofs.jambpepper_transport_private_data.Goals as goal
 
-pub returns-in-At : goal.returns-in-At
-returns-in-At c = simp (sym (sym (ap transport_private_data_says c.in-At.is) ∙ c.transport_private_data.ensures))
+pub returns-in-Ok : goal.returns-in-Ok
+returns-in-Ok c = simp (sym (sym (ap transport_private_data_says c.in-Ok.is) ∙ c.transport_private_data.ensures))
 
-pub returns-in-Refused : goal.returns-in-Refused
-returns-in-Refused c = simp (c.number.ensures, sym (sym (ap transport_private_data_says c.in-Refused.is) ∙ c.transport_private_data.ensures))
+pub returns-in-Err : goal.returns-in-Err
+returns-in-Err c = simp (c.number.ensures, sym (sym (ap transport_private_data_says c.in-Err.is) ∙ c.transport_private_data.ensures))

@@ -1,10 +1,14 @@
 -- `capi_gathering::jambpepper_head` meets its contract: the step of the reader that is named, or the checks' refusal. Assumes nothing.
-use mathlib.Core.Path.{sym, ◌∙◌}
+use mathlib.Core.Path.{◌≡◌, sym, ap, ◌∙◌}
+use mathlib.Core.Bool.{false}
 use native.Mathlib.Omega.{arith}
 use Rattle.reader.specs.Head.{head_of}
 use Rattle.reader.proofs.Forms.{head_form}
 use Rattle.reader.proofs.MemoryByAnswer.{in_the_packet, head_by_answer}
+use Rattle.memory_words.specs.Words.{remembers}
 use Rattle.memory_words.proofs.Words.{words_stay}
+use Rattle.reader.specs.Gathering.{gathering_step_says}
+use Rattle.capi_gathering.specs.declared.JambpepperStep.{JambpepperStep}
 use Rattle.capi_gathering.proofs.States.{named_parts, worked_as_named, head_section_fits, refused_as_unnamed}
 use Rattle.capi_gathering.proofs.jambpepper_head.Goals as goal
 
@@ -15,24 +19,32 @@ gathering_from_c-requires c =
 
 pub remember_at-requires : goal.remember_at-requires
 remember_at-requires c =
-    let step = c.head_with-step.result in
-    omega (arith, head_section_fits _ _ _ step _ c.head_with-step.ensures)
+    let step = gathering_step_says c.head_with-step.result in
+    omega (
+      arith,
+      ap (λ (told : JambpepperStep). told.place.start) c.step_for_c-told.ensures,
+      ap (λ (told : JambpepperStep). told.place.length) c.step_for_c-told.ensures,
+      head_section_fits _ _ _ step _ c.head_with-step.ensures,
+    )
 
 pub returns-then-remembers : goal.returns-then-remembers
 returns-then-remembers c =
     let a = c.args in
-    let step = c.head_with-step.result in
+    let step = gathering_step_says c.head_with-step.result in
     worked_as_named a.reader a.memory.now a.packet.now a.buffer.now _ c.gathering_from_c.ensures step _ head_of
     c.head_with-step.ensures (sym c.names_reader.ensures ∙ c.if-names_reader.true) (in_the_packet a.packet.now) (head_by_answer _ _ _) (head_form _ _ _) _ c.step_for_c-told.ensures _
-    c.remember_at.ensures
+    (rw c.step_for_c-told.ensures at c.remember_at.ensures)
 
 pub returns-else-remembers : goal.returns-else-remembers
 returns-else-remembers c =
     let a = c.args in
-    let step = c.head_with-step.result in
+    let step = gathering_step_says c.head_with-step.result in
+    let forgets : remembers a.memory.now step.answer ≡ false =
+    ap (λ (told : JambpepperStep). remembers a.memory.now told.answer) (sym c.step_for_c-told.ensures)
+    ∙ sym c.remembers.ensures ∙ c.if-remembers.false in
     worked_as_named a.reader a.memory.now a.packet.now a.buffer.now _ c.gathering_from_c.ensures step _ head_of
     c.head_with-step.ensures (sym c.names_reader.ensures ∙ c.if-names_reader.true) (in_the_packet a.packet.now) (head_by_answer _ _ _) (head_form _ _ _) _ c.step_for_c-told.ensures _
-    (sym (words_stay step.answer a.memory.now _ (sym c.remembers.ensures ∙ c.if-remembers.false)))
+    (sym (words_stay step.answer a.memory.now _ forgets))
 
 pub returns : goal.returns
 returns c =

@@ -2,4 +2,4 @@
 use Rattle.capi_gathering.proofs.refused_for_c.Goals as goal
 
 pub returns : goal.returns
-returns c = simp (c.number.ensures, ← c.checked-payload.ensures)
+returns c = simp (c.payload_number.ensures, ← c.checked-payload.ensures)

@@ -6,9 +6,9 @@ use Rattle.capi_numbers.proofs.Flags.{byte_is_flag}
 use Rattle.packet.specs.Header.{header_says}
 use Rattle.capi_packets.proofs.jambpepper_header.Goals as goal
 
-pub returns-in-Is : goal.returns-in-Is
-returns-in-Is c = simp (byte_is_flag, sym (sym (ap header_says c.in-Is.is) ∙ c.header.ensures))
+pub returns-in-Ok : goal.returns-in-Ok
+returns-in-Ok c = simp (byte_is_flag, sym (sym (ap header_says c.in-Ok.is) ∙ c.header.ensures))
 
-pub returns-in-Refused : goal.returns-in-Refused
+pub returns-in-Err : goal.returns-in-Err
 unfolding flag when◌then◌else◌
-returns-in-Refused c = simp (c.number.ensures, sym (sym (ap header_says c.in-Refused.is) ∙ c.header.ensures))
+returns-in-Err c = simp (c.number.ensures, sym (sym (ap header_says c.in-Err.is) ∙ c.header.ensures))

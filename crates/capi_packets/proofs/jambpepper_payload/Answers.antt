@@ -3,8 +3,8 @@ use mathlib.Core.Path.{sym, ap, ◌∙◌}
 use Rattle.packet.specs.Payload.{payload_says}
 use Rattle.capi_packets.proofs.jambpepper_payload.Goals as goal
 
-pub returns-in-At : goal.returns-in-At
-returns-in-At c = simp (sym (sym (ap payload_says c.in-At.is) ∙ c.payload.ensures))
+pub returns-in-Ok : goal.returns-in-Ok
+returns-in-Ok c = simp (sym (sym (ap payload_says c.in-Ok.is) ∙ c.payload.ensures))
 
-pub returns-in-Refused : goal.returns-in-Refused
-returns-in-Refused c = simp (c.number.ensures, sym (sym (ap payload_says c.in-Refused.is) ∙ c.payload.ensures))
+pub returns-in-Err : goal.returns-in-Err
+returns-in-Err c = simp (c.number.ensures, sym (sym (ap payload_says c.in-Err.is) ∙ c.payload.ensures))

@@ -5,9 +5,9 @@ use Rattle.capi_numbers.specs.Numbers.{flag}
 use Rattle.capi_numbers.proofs.Flags.{byte_is_flag}
 use Rattle.capi_sections.proofs.jambpepper_table_header.Goals as goal
 
-pub returns-in-Is : goal.returns-in-Is
-returns-in-Is c = simp (byte_is_flag, sym c.in-Is.ensures)
+pub returns-in-Ok : goal.returns-in-Ok
+returns-in-Ok c = simp (byte_is_flag, sym c.in-Ok.ensures)
 
-pub returns-in-Refused : goal.returns-in-Refused
+pub returns-in-Err : goal.returns-in-Err
 unfolding flag when◌then◌else◌
-returns-in-Refused c = simp (c.number.ensures, sym c.in-Refused.ensures)
+returns-in-Err c = simp (c.number.ensures, sym c.in-Err.ensures)
