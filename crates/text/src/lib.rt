@@ -84,6 +84,7 @@ impl Page<'_> {
     }
 
     // A page of no bytes takes none.
+    #[tactic(auto, using(crate::proofs::Pages::byte_put), unfolding(crate::specs::Page::with_text))]
     fn put_byte(&mut self, byte: u8)
         ensures { Puts self.old self.new (byte ∷ []) }
     {
