@@ -71,11 +71,12 @@ pub fn words_of(memory: Memory) -> [u64; 5]
     five_of(first, memory.marks)
 }
 
-// Whether the words are a sound memory of this form.
+// Whether the words are a sound memory of this form. (None is: the compiler, not told, makes a memory of it first.)
+#[tactic(auto, using(fields::proofs::Choices::choices, memory::proofs::Remembering::nothing_remembered_sound), unfolding(crate::specs::Words::memory_in))]
 pub fn are_sound(words: &[u64], form: Form) -> bool
     ensures { result ≡ sound_memory form (memory_in words.now) }
 {
-    memory_of(words).is_sound(form)
+    words.len() != 5 || memory_of(words).is_sound(form)
 }
 
 // Whether the four numbers that these words remember are the label's, at one comparison.
