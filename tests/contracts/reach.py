@@ -70,7 +70,12 @@ class Function(Item):
             left = self.text[begins + 1:ends]
             while left.strip():
                 parameter, _ = outside(left, ",")
+                while parameter.replace("->", "").count("<") > parameter.replace("->", "").count(">"):
+                    parameter += "," + outside(left[len(parameter) + 1:], ",")[0]
                 name, _, kind = parameter.partition(":")
+                lent = re.match(r"\s*(&\s*(?:'\w+\s+)?(?:mut\s+)?)self$", name.rstrip())
+                if lent:
+                    name, kind = "self", lent.group(1) + self.owner
                 self.parameters.append((re.sub(r"^\s*mut\s", "", name).strip(), kind.strip() or self.owner))
                 left = left[len(parameter) + 1:]
 

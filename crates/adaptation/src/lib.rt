@@ -46,6 +46,7 @@ fn flags_of(packet: &[u8], n: u8) -> AdaptationField
 }
 
 // The field of a packet with this adaptation field control and this length byte.
+#[tactic(auto, using(fields::proofs::Choices::choices), unfolding(crate::specs::AdaptationField::where_present))]
 fn field_behind(packet: &[u8], control: u8, n: u8) -> Result<AdaptationField, Refusal>
     requires { (length packet.now ≡ size) × (n ≡ length_byte packet.now) }
     ensures { adaptation_field_says result ≡ where_present control n no_field (given (flags_of packet.now)) }

@@ -42,16 +42,12 @@ pub struct JambpepperStep {
 fn form_number(form: Form) -> u8
     ensures { result ≡ form_number form }
 {
-    match form {
-        Form::Compact => 0,
-        Form::Full => 1,
-        Form::Once => 2,
-    }
+    form as u8
 }
 
-// The form of a number that names one. No number comes to the last arm: with a form from outside there, the compiler keeps an arm for each number, and
-// then sees that a form is its number.
-fn form_of(number: u8, other: Form) -> Form
+// The form of a number that names one.
+#[tactic(auto, using(fields::proofs::Choices::choices), unfolding(crate::specs::Gathering::form_of))]
+fn form_of(number: u8) -> Form
     requires { number ≤ 2 }
     ensures { result ≡ form_of number }
 {
@@ -59,45 +55,36 @@ fn form_of(number: u8, other: Form) -> Form
         0 => Form::Compact,
         1 => Form::Full,
         2 => Form::Once,
-        _ => other,
+        _ => unreachable!(),
     }
 }
 
 fn holder_number(holder: Holder) -> u8
     ensures { result ≡ holder_number holder }
 {
-    match holder {
-        Holder::Nowhere => 0,
-        Holder::Packet => 1,
-        Holder::Buffer => 2,
-    }
+    holder as u8
 }
 
 // Whether the words are those of a memory of the form with this number: five in ONCE, the first no larger than its numbers, else none.
+#[tactic(auto, using(fields::proofs::Choices::choices), unfolding(crate::specs::Gathering::names_memory))]
 fn names_memory(form: u8, words: &[u64]) -> bool
     ensures { result ≡ names_memory form words.now }
 {
-    if form != 2 {
-        return words.len() == 0;
+    match form {
+        2 => words.len() == 5 && words[0] < 1 << 33,
+        _ => words.is_empty(),
     }
-    if words.len() == 5 {
-        return words[0] < 8589934592;
-    }
-    false
 }
 
 // Whether each number of the state is one that a state has.
+#[tactic(auto, using(fields::proofs::Choices::choices), unfolding(crate::specs::Gathering::names_reader))]
 fn names_reader(reader: JambpepperReader, memory: &[u64]) -> bool
     ensures { result ≡ names_reader reader memory.now }
 {
-    if reader.form <= 2 {
-        if reader.is_open <= 1 {
-            if reader.reserved == 0 {
-                return names_memory(reader.form, memory);
-            }
-        }
-    }
-    false
+    reader.form <= 2
+        && reader.is_open <= 1
+        && reader.reserved == 0
+        && names_memory(reader.form, memory)
 }
 
 // What such a state says, but for its memory. (Of a flag that is 0 or 1 the last bit is enough, which costs no comparison.)
@@ -106,7 +93,7 @@ fn gathering_from_c(reader: JambpepperReader) -> Gathering
     ensures { result ≡ gathering_from_c reader }
 {
     Gathering {
-        form: form_of(reader.form, Form::Compact),
+        form: form_of(reader.form),
         is_open: reader.is_open % 2 == 1,
         held: reader.held,
         wanted: reader.wanted,
@@ -183,7 +170,7 @@ pub extern "C" fn jambpepper_is_sound(reader: JambpepperReader, memory: &[u64]) 
 {
     if names_reader(reader, memory) {
         let named = Reader {
-            form: form_of(reader.form, Form::Compact),
+            form: form_of(reader.form),
             memory: memory_of(memory),
             is_open: reader.is_open % 2 == 1,
             held: reader.held,

@@ -51,6 +51,7 @@ pub fn least_held(form: Form) -> u16
 }
 
 // 13, or nothing.
+#[tactic(auto, using(fields::proofs::Choices::choices), unfolding(crate::specs::Start::header_refusal))]
 fn test_length(header: SectionCommonHeader) -> Result<(), Refusal>
     ensures { answer_number result ≡ length_refusal header }
 {
@@ -61,6 +62,7 @@ fn test_length(header: SectionCommonHeader) -> Result<(), Refusal>
 }
 
 // What the header of so many bytes refuses in FULL and ONCE: 11, 12, 13, or nothing.
+#[tactic(auto, using(fields::proofs::Choices::choices), unfolding(crate::specs::Start::header_refusal))]
 fn test_long_header(header: SectionCommonHeader, len: usize) -> Result<(), Refusal>
     ensures { answer_number result ≡ header_refusal Form.Full header len }
 {
@@ -73,7 +75,8 @@ fn test_long_header(header: SectionCommonHeader, len: usize) -> Result<(), Refus
     test_length(header)
 }
 
-// What it refuses in any form. (An arm a form, so that the compiler asks for the form once.)
+// What it refuses in any form. (COMPACT has an arm of its own, so that the compiler asks for the form once.)
+#[tactic(auto, using(fields::proofs::Choices::choices), unfolding(crate::specs::Start::header_refusal))]
 fn test_header(form: Form, header: SectionCommonHeader, len: usize) -> Result<(), Refusal>
     requires { 3 ≤ len }
     ensures { answer_number result ≡ header_refusal form header len }
@@ -85,8 +88,7 @@ fn test_header(form: Form, header: SectionCommonHeader, len: usize) -> Result<()
             }
             test_length(header)
         }
-        Form::Full => test_long_header(header, len),
-        Form::Once => test_long_header(header, len),
+        Form::Full | Form::Once => test_long_header(header, len),
     }
 }
 
@@ -103,6 +105,7 @@ pub fn test_start(form: Form, memory: &[u64], bytes: &[u8]) -> Result<(), Refusa
 }
 
 // Why a section whose CRC is tested is refused as a whole: 16, 17, or nothing.
+#[tactic(auto, using(fields::proofs::Choices::choices), unfolding(crate::specs::Verdict::crc_verdict))]
 fn test_crc(section: &[u8]) -> Result<(), Refusal>
     ensures { verdict_number result ≡ crc_verdict section.now }
 {
@@ -116,6 +119,7 @@ fn test_crc(section: &[u8]) -> Result<(), Refusal>
 }
 
 // Why a whole section is refused: 16, 17, or nothing where it is delivered.
+#[tactic(auto, using(fields::proofs::Choices::choices), unfolding(crate::specs::Verdict::verdict))]
 pub fn verdict(form: Form, section: &[u8]) -> Result<(), Refusal>
     ensures { verdict_number result ≡ verdict form section.now }
 {

@@ -3,7 +3,7 @@
 use mathlib.Core.Path.{◌≡◌, refl, sym, ap, ap₂, ◌∙◌, subst}
 use mathlib.Core.List.{List, [], ◌∷◌, ◌++◌}
 use Prim.Native.Nat.{ℕ, zero, suc, ◌+◌, ◌-◌, ◌*◌, ◌/◌, ◌%◌, ◌^◌, ◌<◌, ◌≤◌}
-use native.Mathlib.Nat.{zero-mul, suc-mul}
+use native.Mathlib.Nat.{zero-mul, suc-mul, div-eq_of_lt}
 use native.Mathlib.Numerals.{add-one}
 use native.Mathlib.Omega.{arith}
 use lib.Arith.{digits_div, digits_mod}
@@ -13,7 +13,7 @@ use lib.ListN.{length, get_or, take, drop, length-drop, take-append-drop, length
 use lib.Seq.{take-suc, take_all, drop-cons, drop-drop, drop_at, get_or-drop}
 use Rattle.fields.specs.BitString.{number_at}
 use Rattle.fields.specs.Word.{word_of}
-use Rattle.fields.proofs.BitStrings.{byte_more}
+use Rattle.fields.proofs.BitStrings.{byte_more, number_at_lt}
 use Rattle.fields.proofs.SyntaxTables.{word_there}
 use Rattle.crc_steps.specs.BitSteps.{bits_enter}
 use Rattle.crc_steps.specs.StepTable.{entry_of}
@@ -43,6 +43,24 @@ word_enters (suc n) register bytes l h =
     ∙ ap₂ (λ q r. bits_enter 8 (bits_enter (n * 8) register q) r) (sym (digits_div front (h n))) (sym (digits_mod front (h n)))
     ∙ enter_mod 8 24 refl (bits_enter (n * 8) register (all / 256)) all ∙ enter_join (n * 8) 8 register all
     ∙ ap₂ (λ w x. bits_enter w register x) (sym (suc-mul n 8)) (sym (byte_more bytes n l (h n)) ∙ ap (λ w. number_at 0 w bytes) e)
+
+-- the first eight bytes may have bytes of zero ahead of them, from a register that these bring to all ones
+pub first_turn : {eight : ℕ} (register : ℕ) (bytes : List ℕ) (padding : ℕ) → padding ≤ 8 → 8 - padding ≤ length bytes
+    → ((i : ℕ) → get_or bytes i 0 < 256)
+    → bits_enter (padding * 8) register 0 ≡ all_ones → eight ≡ number_at 0 ((8 - padding) * 8) bytes
+    → crc_from (bits_enter 32 (bits_enter 32 register (eight / 2 ^ 32)) eight) (drop (8 - padding) bytes) ≡ crc_of bytes
+unfolding crc_of
+first_turn {eight} register bytes padding m l h start number =
+    let n : ℕ = 8 - padding in
+    let front : ℕ = number_at 0 (n * 8) bytes in
+    let q : 64 ≡ padding * 8 + n * 8 = omega arith in
+    ap (λ r. crc_from r (drop n bytes))
+    (enter_join 32 32 register eight
+    ∙ ap₂ (λ w x. bits_enter w register x) q number ∙ sym (enter_join (padding * 8) (n * 8) register front)
+    ∙ ap (λ r. bits_enter (n * 8) r front)
+    (ap (bits_enter (padding * 8) register) (div-eq_of_lt (number_at_lt bytes 0 (n * 8) (omega arith))) ∙ start)
+    ∙ sym (word_enters n all_ones bytes l h))
+    ∙ taken_then_dropped all_ones n bytes
 
 -- what turns of eight bytes leave of all
 pub record Left (bytes left : List ℕ) : Type 0 where

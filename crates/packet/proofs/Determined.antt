@@ -5,7 +5,7 @@ use Rattle.answers.proofs.Saying.{same_answer}
 use Rattle.packet.proofs.ContinuityCounter.follows.Reads as follows
 use Rattle.packet.proofs.Packet.header.Reads as header
 use Rattle.packet.proofs.Packet.payload.Reads as payload
-use Rattle.packet.proofs.payload_number.Reads as number
+use Rattle.packet.proofs.payload_number.Reads as payload_number
 
 pub follows_determined : Determines follows.Post
 follows_determined κs arguments x y x_exit y_exit p q = p ∙ sym q
@@ -16,5 +16,5 @@ header_determined κs arguments x y x_exit y_exit p q = same_answer _ x y (p ∙
 pub payload_determined : Determines payload.Post
 payload_determined κs arguments x y x_exit y_exit p q = same_answer _ x y (p ∙ sym q)
 
-pub number_determined : Determines number.Post
-number_determined κs arguments x y x_exit y_exit p q = p ∙ sym q
+pub payload_number_determined : Determines payload_number.Post
+payload_number_determined κs arguments x y x_exit y_exit p q = p ∙ sym q

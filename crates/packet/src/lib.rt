@@ -43,6 +43,7 @@ impl ContinuityCounter {
     pub const COUNT: u8 = ContinuityCounter::MAX_VALUE + 1;
 
     // Whether `counter` follows `other`. No, where one of them is no counter: the Rust asserts there.
+    #[tactic(auto, using(fields::proofs::Choices::choices), unfolding(crate::specs::Counter::follows_of))]
     pub fn follows(counter: u8, other: u8) -> bool
         ensures { result ≡ follows_of counter other }
     {
@@ -63,6 +64,7 @@ pub fn payload_number(payload: Result<usize, Refusal>) -> u8
 }
 
 // A payload that starts there.
+#[tactic(auto, using(fields::proofs::Choices::choices), unfolding(crate::specs::Payload::starting_at))]
 fn starting_at(start: usize) -> Result<usize, Refusal>
     ensures { payload_says result ≡ starting_at start }
 {

@@ -87,6 +87,7 @@ impl Section {
     }
 
     // Where the body lies, or 16.
+    #[tactic(auto, using(fields::proofs::Choices::choices), unfolding(crate::specs::Body::body_of))]
     pub fn body(section: &[u8]) -> Result<Place, Refusal>
         ensures { body_says result ≡ body_of section.now }
     {

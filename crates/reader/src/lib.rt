@@ -122,55 +122,42 @@ impl Reader {
     fn gathering(self) -> Gathering
         ensures { result ≡ gathering_of self }
     {
-        let form = self.form;
         Gathering {
-            form,
+            form: self.form,
             is_open: self.is_open,
             held: self.held,
             wanted: self.wanted,
         }
     }
 
+    #[tactic(auto, using(fields::proofs::Choices::choices), unfolding(crate::specs::State::sound))]
     pub fn is_sound(self) -> bool
         ensures { result ≡ sound self }
     {
-        let memory = self.memory;
-        let form = self.form;
-        if memory.is_sound(form) {
-            return self.gathering().counts_are_sound();
-        }
-        false
+        self.memory.is_sound(self.form) && self.gathering().counts_are_sound()
     }
 }
 
 impl Gathering {
+    #[tactic(auto, using(fields::proofs::Choices::choices), unfolding(crate::specs::State::sound_counts))]
     fn counts_are_sound(self) -> bool
         ensures { result ≡ sound_counts self }
     {
-        let form = self.form;
         if self.is_open {
-            if least_held(form) <= self.held {
-                if self.held < self.wanted {
-                    return self.wanted as usize <= Reader::BUFFER_SIZE;
-                }
-            }
-            return false;
+            least_held(self.form) <= self.held
+                && self.held < self.wanted
+                && usize::from(self.wanted) <= Reader::BUFFER_SIZE
+        } else {
+            self.held == 0 && self.wanted == 0
         }
-        if self.held == 0 {
-            return self.wanted == 0;
-        }
-        false
     }
 
     // Whether it is sound, with what these words remember.
+    #[tactic(auto, using(fields::proofs::Choices::choices), unfolding(crate::specs::State::sound))]
     fn is_sound(self, memory: &[u64]) -> bool
         ensures { result ≡ sound (with_memory (memory_in memory.now) self) }
     {
-        let form = self.form;
-        if are_sound(memory, form) {
-            return self.counts_are_sound();
-        }
-        false
+        are_sound(memory, self.form) && self.counts_are_sound()
     }
 }
 
@@ -248,14 +235,11 @@ fn lay(buffer: &mut [u8], at: usize, bytes: &[u8])
     requires { at + length bytes.now ≤ length buffer.old }
     ensures { buffer.new ≡ laid buffer.old at bytes.now }
 {
-    let mut i = 0;
-    while i < bytes.len() {
-        buffer[at + i] = bytes[i];
-        i += 1;
-    }
+    buffer[at..at + bytes.len()].copy_from_slice(bytes);
 }
 
 // How a whole section that lies there ends.
+#[tactic(auto, using(fields::proofs::Choices::choices), unfolding(crate::specs::Whole::whole))]
 fn whole(form: Form, place: Place, section: &[u8]) -> GatheringStep
     ensures { (memory : Memory) → gathering_step_says result ≡ without_memory (whole form memory place section.now) }
 {

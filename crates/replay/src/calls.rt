@@ -1,113 +1,113 @@
 // The calls that only read. A request names one of them, or several with a comma between two.
-use crate::arguments::{OVER, line_of, next, part};
+use crate::arguments::Fault;
 use crate::line::Page;
-use crate::{adaptation_fields, bodies, crc, line, packets, sections};
+use crate::{adaptation_fields, bodies, crc, packets, sections};
 
-// What the calls of a list are asked of: bytes, or a position and bytes.
-#[derive(Drop)]
-pub struct Takes;
-
-impl Takes {
-    pub const NO_CALL: u8 = 0;
-
-    pub const BYTES: u8 = 1;
-
-    pub const POSITION_AND_BYTES: u8 = 2;
+#[derive(Clone, Copy, Debug, PartialEq, Eq)]
+enum Call {
+    ProgramAt,
+    StreamAt,
+    Programs,
+    Streams,
+    PmtStart,
+    PmtStreams,
+    Pat,
+    Pmt,
+    Header,
+    Payload,
+    PayloadNumber,
+    AdaptationField,
+    Pcr,
+    Opcr,
+    SpliceCountdown,
+    TransportPrivateData,
+    SectionHeader,
+    TableHeader,
+    Body,
+    Sum32,
 }
 
-// The number of the first call of each module, in the order of the names, and how many calls there are. The first four are asked at
-// a position.
-#[derive(Clone, Copy)]
-struct First;
+impl TryFrom<&[u8]> for Call {
+    type Error = Fault;
 
-impl First {
-    const WITHOUT_A_POSITION: u64 = 4;
-
-    const OF_PACKETS: u64 = 8;
-
-    const OF_ADAPTATION_FIELDS: u64 = 11;
-
-    const OF_SECTIONS: u64 = 16;
-
-    const OF_CRC: u64 = 19;
-
-    const THAT_IS_NONE: u64 = 20;
+    fn try_from(name: &[u8]) -> Result<Call, Fault> {
+        match name {
+            b"program_at" => Ok(Call::ProgramAt),
+            b"stream_at" => Ok(Call::StreamAt),
+            b"programs" => Ok(Call::Programs),
+            b"streams" => Ok(Call::Streams),
+            b"pmt_start" => Ok(Call::PmtStart),
+            b"pmt_streams" => Ok(Call::PmtStreams),
+            b"pat" => Ok(Call::Pat),
+            b"pmt" => Ok(Call::Pmt),
+            b"header" => Ok(Call::Header),
+            b"payload" => Ok(Call::Payload),
+            b"payload_number" => Ok(Call::PayloadNumber),
+            b"adaptation_field" => Ok(Call::AdaptationField),
+            b"pcr" => Ok(Call::Pcr),
+            b"opcr" => Ok(Call::Opcr),
+            b"splice_countdown" => Ok(Call::SpliceCountdown),
+            b"transport_private_data" => Ok(Call::TransportPrivateData),
+            b"section_header" => Ok(Call::SectionHeader),
+            b"table_header" => Ok(Call::TableHeader),
+            b"body" => Ok(Call::Body),
+            b"sum32" => Ok(Call::Sum32),
+            _ => Err(Fault::NoCall),
+        }
+    }
 }
 
-fn call_of(name: &[u8]) -> u64 {
-    line_of(
-        name,
-        b"program_at\n\
-          stream_at\n\
-          programs\n\
-          streams\n\
-          pmt_start\n\
-          pmt_streams\n\
-          pat\n\
-          pmt\n\
-          header\n\
-          payload\n\
-          payload_number\n\
-          adaptation_field\n\
-          pcr\n\
-          opcr\n\
-          splice_countdown\n\
-          transport_private_data\n\
-          section_header\n\
-          table_header\n\
-          body\n\
-          sum32\n",
-    )
+impl Call {
+    // Whether it is asked of a position and bytes, and not of bytes alone.
+    fn takes_a_position(self) -> bool {
+        matches!(
+            self,
+            Call::ProgramAt | Call::StreamAt | Call::Programs | Call::Streams
+        )
+    }
+
+    fn put(self, position: usize, bytes: &[u8], page: &mut Page) {
+        match self {
+            Call::ProgramAt => bodies::put_program_at(position, bytes, page),
+            Call::StreamAt => bodies::put_stream_at(position, bytes, page),
+            Call::Programs => bodies::put_programs(position, bytes, page),
+            Call::Streams => bodies::put_streams(position, bytes, page),
+            Call::PmtStart => bodies::put_pmt_start(bytes, page),
+            Call::PmtStreams => bodies::put_pmt_streams(bytes, page),
+            Call::Pat => bodies::put_pat(bytes, page),
+            Call::Pmt => bodies::put_pmt(bytes, page),
+            Call::Header => packets::put_header(bytes, page),
+            Call::Payload => packets::put_payload(bytes, page),
+            Call::PayloadNumber => packets::put_payload_number(bytes, page),
+            Call::AdaptationField => adaptation_fields::put_field(bytes, page),
+            Call::Pcr => adaptation_fields::put_pcr(bytes, page),
+            Call::Opcr => adaptation_fields::put_opcr(bytes, page),
+            Call::SpliceCountdown => adaptation_fields::put_splice_countdown(bytes, page),
+            Call::TransportPrivateData => adaptation_fields::put_private_data(bytes, page),
+            Call::SectionHeader => sections::put_header(bytes, page),
+            Call::TableHeader => sections::put_table_header(bytes, page),
+            Call::Body => sections::put_body(bytes, page),
+            Call::Sum32 => crc::put_sum32(bytes, page),
+        }
+    }
 }
 
-pub fn taken_by(list: &[u8]) -> u8 {
-    let mut takes = Takes::BYTES;
-    let mut at = 0;
-    while at < OVER {
-        takes = taken_with(takes, call_of(part(list, at, b',')));
-        at = next(list, at, b',');
+// Whether one of the calls of a list takes a position.
+pub fn take_a_position(list: &[u8]) -> Result<bool, Fault> {
+    let mut takes = false;
+    for name in list.split(|letter| *letter == b',') {
+        takes |= Call::try_from(name)?.takes_a_position();
     }
-    takes
-}
-
-// What a list takes that so far takes that, with a call more.
-fn taken_with(before: u8, call: u64) -> u8 {
-    if before == Takes::NO_CALL {
-        return before;
-    }
-    if call < First::WITHOUT_A_POSITION {
-        return Takes::POSITION_AND_BYTES;
-    }
-    if call < First::THAT_IS_NONE {
-        return before;
-    }
-    Takes::NO_CALL
+    Ok(takes)
 }
 
 // Puts the answers of the calls one behind the other.
-pub fn put_all(list: &[u8], position: usize, bytes: &[u8], page: &mut Page, start: usize) -> usize {
-    let mut end = put_call(call_of(part(list, 0, b',')), position, bytes, page, start);
-    let mut at = next(list, 0, b',');
-    while at < OVER {
-        end = line::put_text(page, end, b" ");
-        end = put_call(call_of(part(list, at, b',')), position, bytes, page, end);
-        at = next(list, at, b',');
+pub fn put_all(list: &[u8], position: usize, bytes: &[u8], page: &mut Page) -> Result<(), Fault> {
+    for (i, name) in list.split(|letter| *letter == b',').enumerate() {
+        if i > 0 {
+            page.put_text(b" ");
+        }
+        Call::try_from(name)?.put(position, bytes, page);
     }
-    end
-}
-
-fn put_call(call: u64, position: usize, bytes: &[u8], page: &mut Page, end: usize) -> usize {
-    if call < First::OF_PACKETS {
-        return bodies::put(call, position, bytes, page, end);
-    }
-    if call < First::OF_ADAPTATION_FIELDS {
-        return packets::put(call - First::OF_PACKETS, bytes, page, end);
-    }
-    if call < First::OF_SECTIONS {
-        return adaptation_fields::put(call - First::OF_ADAPTATION_FIELDS, bytes, page, end);
-    }
-    if call < First::OF_CRC {
-        return sections::put(call - First::OF_SECTIONS, bytes, page, end);
-    }
-    crc::put(bytes, page, end)
+    Ok(())
 }

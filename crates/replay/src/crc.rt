@@ -1,7 +1,6 @@
 // The CRC.
-use crate::line;
-use crate::line::{GIVEN, Page};
+use crate::line::Page;
 
-pub fn put(bytes: &[u8], page: &mut Page, end: usize) -> usize {
-    line::put_numbers(page, end, &[GIVEN, mpegts_crc::sum32(bytes) as u64])
+pub fn put_sum32(bytes: &[u8], page: &mut Page) {
+    page.put_given(&[u64::from(mpegts_crc::sum32(bytes))]);
 }

@@ -1,61 +1,99 @@
 // What a request leaves to the next one.
+ghost use Rattle.std.specs.Prelude.{◌≤◌};
+
+use crate::arguments::{Arguments, Fault};
 use reader::{Form, Holder, Place, Reader, Step};
 
 // The largest buffer and packet: a place's start and length are below 65,536 each.
-pub const ROOM: usize = 131072;
+const ROOM: usize = 131072;
 
-// The step that was worked last; how many bytes of the two rooms are the buffer and the packet; and where the text of the page ends.
-#[derive(Clone, Copy)]
-pub struct Kept {
-    pub step: Step,
-    pub buffer_size: usize,
-    pub packet_size: usize,
-    pub end: usize,
+// Bytes, as many as there is room for.
+#[derive(Drop)]
+pub struct Bytes {
+    pub room: [u8; ROOM],
+    pub size: usize,
+    ghost within: { size ≤ 131072 },
 }
 
-// A fresh reader, a buffer of that size, and no packet.
-pub fn anew(form: Form, buffer_size: usize, end: usize) -> Kept {
-    let place = Place {
-        holder: Holder::Nowhere,
-        start: 0,
-        len: 0,
-    };
-    let step = Step {
-        reader: Reader::fresh(form),
-        place,
-        answer: 0,
-    };
-    Kept {
-        step,
-        buffer_size,
-        packet_size: 0,
-        end,
-    }
-}
-
-impl Kept {
-    pub fn with_step(self, step: Step, end: usize) -> Kept {
-        Kept {
-            step,
-            buffer_size: self.buffer_size,
-            packet_size: self.packet_size,
-            end,
+impl Bytes {
+    fn none() -> Bytes {
+        Bytes {
+            room: [0u8; ROOM],
+            size: 0,
         }
     }
 
-    pub fn with_buffer(mut self, size: usize) -> Kept {
-        self.buffer_size = size;
-        self
+    pub fn as_slice(&self) -> &[u8] {
+        &self.room[..self.size]
     }
 
-    pub fn with_packet(mut self, size: usize, end: usize) -> Kept {
-        self.packet_size = size;
-        self.end = end;
-        self
+    fn set_zeros(&mut self, count: usize)
+        requires { count ≤ 131072 }
+    {
+        let room = &mut self.room[..];
+        room[..count].fill(0);
+        self.size = count;
     }
 
-    pub fn with_end(mut self, end: usize) -> Kept {
-        self.end = end;
-        self
+    // The bytes that stand there.
+    pub fn read(&mut self, arguments: &mut Arguments) -> Result<(), Fault> {
+        self.size = arguments.bytes(&mut self.room)?;
+        Ok(())
+    }
+}
+
+// The reader, the answer of the step that was worked last and its place, and the bytes that the next step is worked on.
+#[derive(Drop)]
+pub struct Kept {
+    pub reader: Reader,
+    pub answer: u8,
+    pub place: Place,
+    pub buffer: Bytes,
+    pub packet: Bytes,
+}
+
+// Where nothing is delivered.
+const NO_PLACE: Place = Place {
+    holder: Holder::Nowhere,
+    start: 0,
+    len: 0,
+};
+
+impl Kept {
+    // What is kept at first: a fresh reader of COMPACT, and no bytes.
+    pub fn nothing() -> Kept {
+        Kept {
+            reader: Reader::fresh(Form::Compact),
+            answer: 0,
+            place: NO_PLACE,
+            buffer: Bytes::none(),
+            packet: Bytes::none(),
+        }
+    }
+
+    // Keeps that again.
+    pub fn clear(&mut self) {
+        self.start(Form::Compact);
+    }
+
+    // Keeps a fresh reader of that form, and a buffer of zeros.
+    pub fn begin(&mut self, form: Form) {
+        self.start(form);
+        self.buffer.set_zeros(Reader::BUFFER_SIZE);
+    }
+
+    fn start(&mut self, form: Form) {
+        self.reader = Reader::fresh(form);
+        self.answer = 0;
+        self.place = NO_PLACE;
+        self.buffer.size = 0;
+        self.packet.size = 0;
+    }
+
+    // Keeps what a step leaves.
+    pub fn keep(&mut self, step: Step) {
+        self.reader = step.reader;
+        self.answer = reader::number(step.answer);
+        self.place = reader::place(step.answer);
     }
 }

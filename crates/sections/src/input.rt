@@ -1,64 +1,30 @@
 // Where the next packet of a stream stands.
-ghost use Rattle.std.specs.Prelude.{◌≤◌, length};
+ghost use Rattle.std.specs.Prelude.{◌<◌, length, IfSome};
 
 use packet::Packet;
 
-// What the next bytes are: a packet; one that lacks its 0x47, though the packet behind it has its own; a byte that is of no packet;
-// too few bytes to tell.
+// What the next bytes are: a packet; one that lacks its 0x47, though the packet behind it has its own; a byte that is of no packet.
 #[derive(Clone, Copy)]
-pub enum Kind {
-    Packet,
+pub enum Found<'a> {
+    Packet(&'a [u8]),
     Damaged,
     NoPacket,
-    More,
 }
 
-// That, and how many bytes it takes.
-#[derive(Clone, Copy)]
-pub struct Found {
-    pub kind: Kind,
-    pub size: usize,
-}
-
-// In a run of packets each 0x47 stands where it is due. A run starts where 0x47 stands twice, a packet apart.
-pub fn next(is_in_step: bool, bytes: &[u8]) -> Found
-    ensures { result.size ≤ length bytes.now }
+// That, and the bytes behind it; none where the bytes are too few to tell. In a run of packets each 0x47 stands where it is due. A run
+// starts where 0x47 stands twice, a packet apart.
+pub fn split_first(is_in_step: bool, bytes: &[u8]) -> Option<(Found<'_>, &[u8])>
+    ensures { IfSome result (λ p. length p.1.now < length bytes.now) }
 {
-    if bytes.len() < Packet::SIZE {
-        return Found {
-            kind: Kind::More,
-            size: 0,
-        };
-    }
-    let is_packet = bytes[0] == Packet::SYNC_BYTE;
+    let (packet, behind) = bytes.split_at_checked(Packet::SIZE)?;
+    let is_packet = packet[0] == Packet::SYNC_BYTE;
     if is_in_step && is_packet {
-        return Found {
-            kind: Kind::Packet,
-            size: Packet::SIZE,
-        };
+        return Some((Found::Packet(packet), behind));
     }
-    if bytes.len() == Packet::SIZE {
-        return Found {
-            kind: Kind::More,
-            size: 0,
-        };
-    }
-    if bytes[Packet::SIZE] == Packet::SYNC_BYTE {
-        if is_packet {
-            return Found {
-                kind: Kind::Packet,
-                size: Packet::SIZE,
-            };
-        }
-        if is_in_step {
-            return Found {
-                kind: Kind::Damaged,
-                size: Packet::SIZE,
-            };
-        }
-    }
-    Found {
-        kind: Kind::NoPacket,
-        size: 1,
+    let is_followed = *behind.first()? == Packet::SYNC_BYTE;
+    match (is_packet, is_followed) {
+        (true, true) => Some((Found::Packet(packet), behind)),
+        (false, true) if is_in_step => Some((Found::Damaged, behind)),
+        _ => Some((Found::NoPacket, &bytes[1..])),
     }
 }

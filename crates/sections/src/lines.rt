@@ -1,77 +1,68 @@
 // The lines of the report. The first word of a line says what it is; the number behind `section`, `refused` and `skipped` is the
 // packet's, counted from 0. What puts several lines answers how the first was written: an output that fails goes on failing.
-use crate::line_forms::{put, put_named};
-use crate::names::{
-    meaning_line, put_with_meaning, put_with_stream_type, put_with_table, table_line, type_line,
-};
-use crate::words::FormLine;
+use crate::names;
 use answers::{Answer, Refusal};
-use pat::{PatSection, ProgramAnswer, ProgramDescriptor};
-use pmt::{PmtAnswer, PmtSection, StreamAnswer, StreamInfo};
-use psi::{Body, HeaderAnswer, Section, TableHeaderAnswer, TableSyntaxHeader};
+use pat::{PatSection, ProgramDescriptor, ProgramRefusal};
+use pmt::{PmtSection, StreamInfo, StreamRefusal, TooShort};
+use psi::{Section, TableSyntaxHeader};
+use reader::Form;
 use std::io;
-use std::io::Stdout;
+use std::io::{Print, Stdout};
+use text::Page;
 
 const PAT: u8 = 0x00;
 
 const PMT: u8 = 0x02;
 
-// The position at which a walk is over.
-const NOWHERE: usize = usize::MAX;
+// How many bytes stand in a line of bytes.
+const ROW: usize = 16;
 
-// The form by the line of its name.
-pub fn put_heading(out: Stdout, pid: u16, form: u64) -> io::Result<()> {
-    put_named(
-        out,
-        b"sections of PID # (0x$$$$), form @\n\
-          \n            \
-          packet  table         id  version  when     section     bytes\n",
-        &[pid as u64, pid as u64, form],
-        b"COMPACT\nFULL\nONCE\n",
+// Room for some lines of bytes; what is longer is written in parts.
+const ROOM: usize = 256;
+
+pub fn put_heading(out: Stdout, pid: u16, form: Form) -> io::Result<()> {
+    let form = names::of_form(form);
+    println!(out;
+        "sections of PID {pid} (0x{pid:04x}), form {form}\n\
+         \n            \
+         packet  table         id  version  when     section     bytes"
     )
 }
 
-pub fn put_refused(out: Stdout, packet: u64, answer: u8) -> io::Result<()> {
-    let numbers = [packet, answer as u64, meaning_line(answer)];
-    put_with_meaning(out, b"refused ##########  #: @\n", &numbers)
+pub fn put_refused(out: Stdout, packet: u64, refusal: Refusal) -> io::Result<()> {
+    let number = refusal.number();
+    let meaning = names::of_refusal(refusal);
+    println!(out; "refused {packet:>10}  {number}: {meaning}")
 }
 
 pub fn put_skipped(out: Stdout, packet: u64, bytes: u64) -> io::Result<()> {
-    put(
-        out,
-        b"skipped ##########  # bytes that are no packet\n",
-        &[packet, bytes],
-    )
+    println!(out; "skipped {packet:>10}  {bytes} bytes that are no packet")
 }
 
 // A delivered section: its line, and the entries of a PAT or PMT below it.
-pub fn put_section(out: Stdout, packet: u64, form: u64, section: &[u8]) -> io::Result<()> {
+pub fn put_section(out: Stdout, packet: u64, form: Form, section: &[u8]) -> io::Result<()> {
     match Section::header(section) {
-        HeaderAnswer::Refused(refusal) => put_refused(out, packet, refusal.number()),
-        HeaderAnswer::Is(header) => {
-            if form == FormLine::COMPACT {
-                put_compact(out, packet, header.table_id, section.len() as u64)
-            } else {
-                put_full(out, packet, header.table_id, section)
-            }
-        }
+        Err(refusal) => put_refused(out, packet, refusal),
+        Ok(header) => match form {
+            Form::Compact => put_compact(out, packet, header.table_id, section.len()),
+            Form::Full | Form::Once => put_full(out, packet, header.table_id, section),
+        },
     }
 }
 
 // A COMPACT section has no table header.
-fn put_compact(out: Stdout, packet: u64, table_id: u8, size: u64) -> io::Result<()> {
-    put_with_table(
-        out,
-        b"section ##########  0x$$ @      -        -  -          -          #####\n",
-        &[packet, table_id as u64, table_line(table_id), size],
+fn put_compact(out: Stdout, packet: u64, table_id: u8, size: usize) -> io::Result<()> {
+    let table = names::of_table(table_id);
+    println!(out;
+        "section {packet:>10}  0x{table_id:02x} {table:<4}      -        -  -          -          {size:>5}"
     )
 }
 
 fn put_full(out: Stdout, packet: u64, table_id: u8, section: &[u8]) -> io::Result<()> {
     match Section::table_header(section) {
-        TableHeaderAnswer::Refused(refusal) => put_refused(out, packet, refusal.number()),
-        TableHeaderAnswer::Is(header) => {
-            let written = put_table_header(out, packet, table_id, header, section.len() as u64);
+        Err(refusal) => put_refused(out, packet, refusal),
+        Ok(header) => {
+            let written = put_table_header(out, packet, table_id, header, section.len());
             put_entries(out, table_id, section);
             written
         }
@@ -83,48 +74,36 @@ fn put_table_header(
     packet: u64,
     table_id: u8,
     header: TableSyntaxHeader,
-    size: u64,
+    size: usize,
 ) -> io::Result<()> {
-    // The lines of `current` and `next` among the names.
-    let when = if header.current_next_indicator { 5 } else { 6 };
-    let numbers = [
-        packet,
-        table_id as u64,
-        table_line(table_id),
-        header.id as u64,
-        header.version as u64,
-        when,
-        header.section_number as u64,
-        header.last_section_number as u64,
-        size,
-    ];
-    put_with_table(
-        out,
-        b"section ##########  0x$$ @  #####  #######  @  ### of <<<  #####\n",
-        &numbers,
+    let TableSyntaxHeader {
+        id,
+        version,
+        current_next_indicator,
+        section_number,
+        last_section_number,
+    } = header;
+    let table = names::of_table(table_id);
+    let when = names::of_current_next(current_next_indicator);
+    println!(out;
+        "section {packet:>10}  0x{table_id:02x} {table:<4}  {id:>5}  {version:>7}  {when:<7}  \
+         {section_number:>3} of {last_section_number:<3}  {size:>5}"
     )
 }
 
+// A body lies within its section.
 fn put_entries(out: Stdout, table_id: u8, section: &[u8]) {
-    match Section::body(section) {
-        Body::Refused(_) => {}
-        Body::At(place) => put_part(out, table_id, section, place.start, place.len),
-    }
-}
-
-// A body lies within its section, so both tests hold.
-fn put_part(out: Stdout, table_id: u8, section: &[u8], start: usize, len: usize) {
-    if start <= section.len() {
-        if len <= section.len() - start {
-            let end = start + len;
-            put_body(out, table_id, &section[start..end]);
-        }
+    if let Ok(place) = Section::body(section)
+        && let Some((_, behind)) = section.split_at_checked(place.start)
+        && let Some((body, _)) = behind.split_at_checked(place.len)
+    {
+        put_body(out, table_id, body);
     }
 }
 
 fn put_body(out: Stdout, table_id: u8, body: &[u8]) {
     match table_id {
-        PAT => put_walk(out, table_id, body, 0),
+        PAT => put_programs(out, body),
         PMT => put_map(out, body),
         _ => {}
     }
@@ -132,130 +111,142 @@ fn put_body(out: Stdout, table_id: u8, body: &[u8]) {
 
 fn put_map(out: Stdout, body: &[u8]) {
     match PmtSection::start(body) {
-        PmtAnswer::TooShort { needed, actual } => {
-            let _ = put_too_short(out, needed as u64, actual as u64);
-        }
-        PmtAnswer::Is(map) => {
+        Ok(map) => {
             let _ = put_clock(out, map);
-            put_walk(out, PMT, body, map.streams);
+            put_streams(out, body, map.streams);
         }
+        Err(too_short) => put_too_short(out, too_short),
     }
 }
 
-fn put_too_short(out: Stdout, needed: u64, actual: u64) -> io::Result<()> {
-    let answer = Answer::PMT_TOO_SHORT;
-    put_with_meaning(
-        out,
-        b"  stopped at byte 0 of the body, #: @, # bytes of #\n",
-        &[answer as u64, meaning_line(answer), actual, needed],
-    )
+fn put_too_short(out: Stdout, TooShort { needed, actual }: TooShort) {
+    let number = Answer::PMT_TOO_SHORT;
+    let _ = println!(out;
+        "  stopped at byte 0 of the body, {number}: PMT body too short, {actual} bytes of {needed}"
+    );
 }
 
 fn put_clock(out: Stdout, map: PmtSection) -> io::Result<()> {
-    let descriptors = map.descriptors;
-    let numbers = [
-        map.pcr_pid as u64,
-        map.pcr_pid as u64,
-        descriptors.len as u64,
-    ];
-    put(
-        out,
-        b"  PCR     PID #### (0x$$$$)  info #### bytes\n",
-        &numbers,
-    )
+    let pid = map.pcr_pid;
+    let size = map.descriptors.len;
+    println!(out; "  PCR     PID {pid:>4} (0x{pid:04x})  info {size:>4} bytes")
+}
+
+fn put_programs(out: Stdout, body: &[u8]) {
+    put_walk(body, 0, |position| put_program_at(out, body, position));
+}
+
+fn put_streams(out: Stdout, body: &[u8], start: usize) {
+    put_walk(body, start, |position| put_stream_at(out, body, position));
 }
 
 // The walk of a host: from the position on, each next position handed back, until a refusal. One call more than the body has
 // bytes is enough.
-fn put_walk(out: Stdout, table_id: u8, body: &[u8], start: usize) {
-    let mut position = start;
-    let mut calls = 0;
-    while calls <= body.len() && position != NOWHERE {
-        position = put_entry(out, table_id, body, position);
-        calls += 1;
+fn put_walk<F: Fn(usize) -> Option<usize>>(body: &[u8], mut position: usize, put_entry: F)
+    requires { F.IsAlwaysCallable put_entry }
+{
+    for _ in 0..=body.len() {
+        let Some(next) = put_entry(position) else {
+            return;
+        };
+        position = next;
     }
 }
 
-fn put_entry(out: Stdout, table_id: u8, body: &[u8], position: usize) -> usize {
-    if table_id == PAT {
-        return put_program_at(out, body, position);
-    }
-    put_stream_at(out, body, position)
-}
-
-fn put_program_at(out: Stdout, body: &[u8], position: usize) -> usize {
+// Answers the next entry's position; none where the walk is over. One that is at the body's end is silent.
+fn put_program_at(out: Stdout, body: &[u8], position: usize) -> Option<usize> {
     match PatSection::program_at(body, position) {
-        ProgramAnswer::Refused(refusal) => end(out, position, refusal),
-        ProgramAnswer::Tail { offset } => stop(out, offset, Answer::PAT_TAIL),
-        ProgramAnswer::Is { program, next } => {
+        Ok((program, next)) => {
             let _ = put_program(out, program);
-            next
+            return Some(next);
+        }
+        Err(ProgramRefusal::Refused(Refusal::WalkAtEnd)) => {}
+        Err(refusal) => {
+            let offset = match refusal {
+                ProgramRefusal::Tail { offset } => offset,
+                ProgramRefusal::Refused(_) => position,
+            };
+            put_stop(
+                out,
+                offset,
+                refusal.number(),
+                names::of_program_refusal(refusal),
+            );
         }
     }
+    None
 }
 
-fn put_stream_at(out: Stdout, body: &[u8], position: usize) -> usize {
+fn put_stream_at(out: Stdout, body: &[u8], position: usize) -> Option<usize> {
     match PmtSection::stream_at(body, position) {
-        StreamAnswer::Refused(refusal) => end(out, position, refusal),
-        StreamAnswer::Under5 { offset } => stop(out, offset, Answer::STREAM_UNDER_5),
-        StreamAnswer::InfoPastEnd { offset } => stop(out, offset, Answer::INFO_PAST_END),
-        StreamAnswer::Is { stream, next } => {
+        Ok((stream, next)) => {
             let _ = put_stream(out, stream);
-            next
+            return Some(next);
+        }
+        Err(StreamRefusal::Refused(Refusal::WalkAtEnd)) => {}
+        Err(refusal) => {
+            let offset = match refusal {
+                StreamRefusal::Under5 { offset } | StreamRefusal::InfoPastEnd { offset } => offset,
+                StreamRefusal::Refused(_) => position,
+            };
+            put_stop(
+                out,
+                offset,
+                refusal.number(),
+                names::of_stream_refusal(refusal),
+            );
         }
     }
+    None
 }
 
-// A walk that is at the body's end is silent.
-fn end(out: Stdout, position: usize, refusal: Refusal) -> usize {
-    let answer = refusal.number();
-    if answer == Answer::WALK_AT_END {
-        return NOWHERE;
-    }
-    stop(out, position, answer)
-}
-
-// One that stops before says where and why.
-fn stop(out: Stdout, offset: usize, answer: u8) -> usize {
-    let _ = put_with_meaning(
-        out,
-        b"  stopped at byte # of the body, #: @\n",
-        &[offset as u64, answer as u64, meaning_line(answer)],
-    );
-    NOWHERE
+// A walk that stops before the body's end says where and why.
+fn put_stop(out: Stdout, offset: usize, number: u8, meaning: &str) {
+    let _ = println!(out; "  stopped at byte {offset} of the body, {number}: {meaning}");
 }
 
 fn put_program(out: Stdout, program: ProgramDescriptor) -> io::Result<()> {
     match program {
-        ProgramDescriptor::Network { pid } => put_pid(out, 0, 0, pid),
+        ProgramDescriptor::Network { pid } => {
+            println!(out; "  network     0  PID {pid:>4} (0x{pid:04x})")
+        }
         ProgramDescriptor::Program {
             program_number,
             pid,
-        } => put_pid(out, 1, program_number, pid),
+        } => println!(out; "  program {program_number:>5}  PID {pid:>4} (0x{pid:04x})"),
     }
 }
 
-fn put_pid(out: Stdout, line: u64, number: u16, pid: u16) -> io::Result<()> {
-    put_named(
-        out,
-        b"  @ #####  PID #### (0x$$$$)\n",
-        &[line, number as u64, pid as u64, pid as u64],
-        b"network\nprogram\n",
+fn put_stream(out: Stdout, stream: StreamInfo) -> io::Result<()> {
+    let StreamInfo {
+        stream_type,
+        elementary_pid: pid,
+        info,
+    } = stream;
+    let size = info.len;
+    let name = names::of_stream_type(stream_type);
+    println!(out;
+        "  stream  PID {pid:>4} (0x{pid:04x})  info {size:>4} bytes  type 0x{stream_type:02x}  {name}"
     )
 }
 
-fn put_stream(out: Stdout, stream: StreamInfo) -> io::Result<()> {
-    let info = stream.info;
-    let numbers = [
-        stream.elementary_pid as u64,
-        stream.elementary_pid as u64,
-        info.len as u64,
-        stream.stream_type as u64,
-        type_line(stream.stream_type),
-    ];
-    put_with_stream_type(
+// Bytes in lines of sixteen, each line with the place of its first.
+pub fn put_bytes(out: Stdout, bytes: &[u8]) -> io::Result<()> {
+    let mut room = [0u8; ROOM];
+    let mut page = Page {
         out,
-        b"  stream  PID #### (0x$$$$)  info #### bytes  type 0x$$  @\n",
-        &numbers,
-    )
+        bytes: &mut room,
+        end: 0,
+    };
+    for (row, bytes) in bytes.chunks(ROW).enumerate() {
+        page.put_text(b"  bytes   ");
+        page.put_decimal((ROW * row) as u64, 5);
+        page.put_text(b" ");
+        for &byte in bytes {
+            page.put_text(b" ");
+            page.put_hexadecimal(u64::from(byte), 2);
+        }
+        page.put_text(b"\n");
+    }
+    out.write_all(page.front())
 }

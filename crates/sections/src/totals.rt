@@ -1,123 +1,91 @@
-// How often a step gave each answer, by the answer's number, with a place for every number of a byte; behind them the other totals.
-use crate::line_forms::put;
-use crate::names::{meaning_line, put_with_meaning};
-use answers::Answer;
+// The totals of a stream.
+use crate::names;
+use answers::Refusal;
 use std::io;
 use std::io::Stdout;
 
-pub const REFUSED: usize = 256;
+// How often a step refused so.
+#[derive(Clone, Copy)]
+struct Refused {
+    refusal: Refusal,
+    count: u64,
+}
 
-pub const PACKETS: usize = 257;
-
-pub const OF_PID: usize = 258;
-
-pub const SKIPPED: usize = 259;
-
-pub const REST: usize = 260;
-
-pub const KEPT: usize = 261;
-
-const COUNT: usize = 262;
-
-// The totals, and how what was told so far was written: an output that fails goes on failing.
+// How many of each there were.
 #[derive(Drop)]
 pub struct Totals {
-    pub sums: [u64; COUNT],
-    pub written: io::Result<()>,
+    pub packets: u64,
+    pub of_pid: u64,
+    pub delivered: u64,
+    pub refused: u64,
+    // By the refusal's number, with a place for every number of a byte.
+    by_number: [Option<Refused>; 256],
+    pub skipped: u64,
+    pub rest: u64,
+    pub kept: u64,
 }
 
-pub fn none() -> Totals {
-    Totals {
-        sums: [0u64; COUNT],
-        written: Ok(()),
+impl Totals {
+    pub fn none() -> Totals {
+        Totals {
+            packets: 0,
+            of_pid: 0,
+            delivered: 0,
+            refused: 0,
+            by_number: [None; 256],
+            skipped: 0,
+            rest: 0,
+            kept: 0,
+        }
+    }
+
+    pub fn count_refused(&mut self, refusal: Refusal) {
+        let place = &mut self.by_number[refusal.number() as usize];
+        let mut count = place.map_or(0, |refused| refused.count);
+        add(&mut count, 1);
+        *place = Some(Refused { refusal, count });
+        add(&mut self.refused, 1);
+    }
+
+    // Answers how the first lines were written.
+    pub fn put(&self, out: Stdout, pid: u16) -> io::Result<()> {
+        let written = self.put_first(out, pid);
+        self.put_refused(out);
+        // What is there only in a stream that is damaged or cut.
+        put_some(out, self.skipped, "bytes skipped that are no packet");
+        put_some(out, self.rest, "bytes at the end that make no packet");
+        put_some(out, self.kept, "bytes kept of a section that did not end");
+        written
+    }
+
+    fn put_first(&self, out: Stdout, pid: u16) -> io::Result<()> {
+        println!(out;
+            "\n\
+             total   {:>10}  packets\n\
+             total   {:>10}  packets of PID {pid} (0x{pid:04x})\n\
+             total   {:>10}  sections delivered\n\
+             total   {:>10}  refused",
+            self.packets, self.of_pid, self.delivered, self.refused
+        )
+    }
+
+    fn put_refused(&self, out: Stdout) {
+        for refused in self.by_number.iter().flatten() {
+            let count = refused.count;
+            let number = refused.refusal.number();
+            let meaning = names::of_refusal(refused.refusal);
+            let _ = println!(out; "total   {count:>10}  refused, {number}: {meaning}");
+        }
     }
 }
 
-pub fn of(totals: &Totals, at: usize) -> u64 {
-    if at < COUNT {
-        return totals.sums[at];
-    }
-    0
+// A total that is full stays so.
+pub fn add(total: &mut u64, n: u64) {
+    *total = total.saturating_add(n);
 }
 
-pub fn add(totals: &mut Totals, at: usize, n: u64) {
-    if at < COUNT {
-        totals.sums[at] = sum(totals.sums[at], n);
-    }
-}
-
-// What was told was written, or failed to be.
-pub fn tell(totals: &mut Totals, written: io::Result<()>) {
-    if written.is_err() {
-        totals.written = written;
-    }
-}
-
-// The sum, or the largest number where that is less.
-pub fn sum(a: u64, b: u64) -> u64 {
-    if a <= u64::MAX - b { a + b } else { u64::MAX }
-}
-
-// Answers how the first lines were written.
-pub fn put_all(out: Stdout, pid: u16, totals: &Totals) -> io::Result<()> {
-    let numbers = [
-        of(totals, PACKETS),
-        of(totals, OF_PID),
-        pid as u64,
-        pid as u64,
-        of(totals, Answer::DELIVERED as usize),
-        of(totals, REFUSED),
-    ];
-    let written = put(
-        out,
-        b"\n\
-          total   ##########  packets\n\
-          total   ##########  packets of PID # (0x$$$$)\n\
-          total   ##########  sections delivered\n\
-          total   ##########  refused\n",
-        &numbers,
-    );
-    put_refused(out, totals);
-    // What is there only in a stream that is damaged or cut.
-    put_some(
-        out,
-        b"total   ##########  bytes skipped that are no packet\n",
-        totals,
-        SKIPPED,
-    );
-    put_some(
-        out,
-        b"total   ##########  bytes at the end that make no packet\n",
-        totals,
-        REST,
-    );
-    put_some(
-        out,
-        b"total   ##########  bytes kept of a section that did not end\n",
-        totals,
-        KEPT,
-    );
-    written
-}
-
-fn put_some(out: Stdout, form: &[u8], totals: &Totals, at: usize) {
-    let total = of(totals, at);
+fn put_some(out: Stdout, total: u64, what: &str) {
     if total != 0 {
-        let _ = put(out, form, &[total]);
-    }
-}
-
-fn put_refused(out: Stdout, totals: &Totals) {
-    let mut answer = Answer::PACKET_SIZE as usize;
-    while answer < REFUSED {
-        put_refused_by(out, answer as u8, of(totals, answer));
-        answer += 1;
-    }
-}
-
-fn put_refused_by(out: Stdout, answer: u8, total: u64) {
-    if total != 0 {
-        let numbers = [total, answer as u64, meaning_line(answer)];
-        let _ = put_with_meaning(out, b"total   ##########  refused, #: @\n", &numbers);
+        let _ = println!(out; "total   {total:>10}  {what}");
     }
 }

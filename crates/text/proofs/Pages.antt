@@ -1,5 +1,5 @@
 -- Laws of text put on a page. Assumes nothing.
-use Prim.Native.Nat.{ℕ, ◌+◌, ◌<◌}
+use Prim.Native.Nat.{ℕ, ◌+◌, ◌<◌, ◌≤◌}
 use mathlib.Core.Path.{◌≡◌, refl, sym, ap, ap₂, ◌∙◌, subst}
 use mathlib.Core.List.{List, [], ◌∷◌, ◌++◌, append_assoc, append-nil}
 use mathlib.Core.Bool.{Bool, true, false}
@@ -7,8 +7,9 @@ use native.Mathlib.Numerals.{add-one}
 use native.Mathlib.Omega.{arith}
 use lib.ListN.{length, set, take, get_or, length-set, replicate, replicate-append-replicate}
 use lib.Seq.{take-suc, take_all, take-suc-set}
-use borrow.Author.Tests.{lt-ltb, ltb-true, ltb-false}
+use borrow.Author.Tests.{lt-ltb, le-ltb, ltb-true, ltb-false}
 use lib.Dec.{ltb}
+use Rattle.fields.specs.Choice.{when◌then◌else◌}
 use Rattle.fields.proofs.Choices.{test_holds, test_fails}
 use Rattle.text.specs.Page.{Page, paged, text_on, Sound, with_byte, with_text, written_for, written}
 
@@ -32,6 +33,28 @@ unfolding with_text
 one_more_repeated page byte i =
     sym (ap (with_text page) (sym (replicate-append-replicate i 1 byte)) ∙ text_append page (replicate i byte) (byte ∷ []))
 
+-- a byte more, by what there is room for
+pub byte_in_room : (page : Page) (byte : ℕ) → page.end < length page.bytes
+    → with_byte page byte ≡ paged (page.end + 1) (set page.bytes page.end byte)
+unfolding with_byte
+byte_in_room page byte h = test_holds _ _ _ (lt-ltb _ _ h)
+
+chosen_again : (b : Bool) (p q : Page) → (when b then p else q) ≡ (when b then p else when b then p else q)
+unfolding when◌then◌else◌
+chosen_again true p q = refl
+chosen_again false p q = refl
+
+pub byte_begins_anew : (page : Page) (byte : ℕ) → length page.bytes ≤ page.end
+    → with_byte page byte ≡ with_byte (paged 0 page.bytes) byte
+unfolding with_byte
+byte_begins_anew page byte h = test_fails _ _ _ (le-ltb _ _ h) ∙ chosen_again (ltb 0 (length page.bytes)) _ _
+
+pub byte_finds_no_room : (page : Page) (byte : ℕ) → length page.bytes ≤ 0 → with_byte page byte ≡ paged 0 page.bytes
+unfolding with_byte
+byte_finds_no_room page byte h = test_fails _ _ _ (le-ltb _ _ (omega arith)) ∙ test_fails _ _ _ (le-ltb _ _ h)
+
+pub ruleset byte_put = (byte_in_room, byte_begins_anew, byte_finds_no_room)
+
 -- ---- nothing is lost
 
 module _ (page : Page) (byte : ℕ) (sound : Sound page) where
@@ -47,15 +70,16 @@ module _ (page : Page) (byte : ℕ) (sound : Sound page) where
   )
 
   by_room : (has_room : Bool) → ltb page.end (length page.bytes) ≡ has_room → Kept
-  unfolding with_byte
   by_room true e =
       let h : page.end < length page.bytes = ltb-true _ _ e in
-      kept (paged (page.end + 1) (set page.bytes page.end byte)) [] (test_holds _ _ _ e) (test_holds _ _ _ e)
+      kept (paged (page.end + 1) (set page.bytes page.end byte)) [] (byte_in_room page byte h) (test_holds _ _ _ e)
       (simp length-set (sound.0, omega arith)) (rw add-one (take-suc-set page.bytes page.end byte h))
   by_room false e =
-      let full : take page.end page.bytes ≡ page.bytes = take_all page.end page.bytes (ltb-false _ _ e) in
-      kept (paged 1 (set page.bytes 0 byte)) page.bytes (test_fails _ _ _ e ∙ test_holds _ _ _ (lt-ltb _ _ sound.0))
-      (test_fails _ _ _ e) (simp length-set (sound.0, omega (arith, sound.0)))
+      let h : length page.bytes ≤ page.end = ltb-false _ _ e in
+      let full : take page.end page.bytes ≡ page.bytes = take_all page.end page.bytes h in
+      kept (paged 1 (set page.bytes 0 byte)) page.bytes
+      (byte_begins_anew page byte h ∙ byte_in_room (paged 0 page.bytes) byte sound.0) (test_fails _ _ _ e)
+      (simp length-set (sound.0, omega (arith, sound.0)))
       (ap (λ (t : List ℕ). page.bytes ++ t) (take-suc-set page.bytes 0 byte sound.0) ∙ ap (λ (t : List ℕ). t ++ byte ∷ []) (sym full))
 
   byte_kept : Kept

@@ -1,6 +1,7 @@
 -- A page that text is put on.
-use Rattle.std.specs.Prelude.{ℕ, ◌+◌, ◌<◌, ◌≤◌, List, [], ◌∷◌, ◌++◌, length, set, take}
+use Rattle.std.specs.Prelude.{◌≡◌, ℕ, ◌+◌, ◌<◌, ◌≤◌, List, [], ◌∷◌, ◌++◌, length, set, take}
 use Rattle.fields.specs.Choice.{when◌then◌else◌, ◌is_below◌}
+use Rattle.text.specs.declared.Page as declared
 
 -- how many bytes are text, from the front on, and all the bytes of the page
 pub record Page : Type 0 where
@@ -9,6 +10,10 @@ pub record Page : Type 0 where
 
 abbrev pub paged : ℕ → List ℕ → Page
 paged end bytes = record { end = end; bytes = bytes }
+
+-- what the program's page is
+abbrev pub paged_of : declared.Page → Page
+paged_of page = paged page.end page.bytes.now
 
 -- the text that it has
 abbrev pub text_on : Page → List ℕ
@@ -37,3 +42,9 @@ written_for page = when page.end is_below length page.bytes then [] else page.by
 unfoldable pub written : Page → List ℕ → List ℕ
 written page [] = []
 written page (byte ∷ text) = written_for page ++ written (with_byte page byte) text
+
+-- what putting text on a page leaves: the text on it; the output and the lent bytes are those that it had
+pub record Puts (old new : declared.Page) (text : List ℕ) : Type 0 where
+  pub text_put : paged_of new ≡ with_text (paged_of old) text
+  pub same_out : new.out ≡ old.out
+  pub same_bytes : new.bytes.ghost_name ≡ old.bytes.ghost_name

@@ -1,113 +1,101 @@
 // Text as programs write it: bytes, and numbers in decimal and hexadecimal, put on a page.
-//
-// Each `put_..` puts text behind the first `end` bytes of the page, and answers how many of its bytes are text then. A page that
-// is full is written to standard output and begun anew, also where it could not be written. What it has at the end, its `front`, is
-// for the program to write.
 #![tactic(auto)]
 
-ghost use Rattle.std.specs.Prelude.{◌≡◌, ◌-◌, replicate};
-ghost use Rattle.text.specs.Page.{paged, text_on, with_byte, with_text};
+ghost use Rattle.std.specs.Prelude.{◌≡◌, [], ◌∷◌, replicate};
+ghost use Rattle.text.specs.Page.{Puts, paged_of, text_on};
 ghost use Rattle.text.specs.Digits.{blank, zero_character, digits};
 ghost use Rattle.text.specs.Padded.{filled_before, filled_behind};
 
 use std::io::{Print, Stdout};
 
-pub fn put_text(out: Stdout, page: &mut [u8], mut end: usize, text: &[u8]) -> usize
-    ensures { paged result page.new ≡ with_text (paged end page.old) text.now }
-{
-    let mut i = 0;
-    while i < text.len() {
-        end = put_byte(out, page, end, text[i]);
-        i += 1;
+// A page that text is put on. Its first `end` bytes are text, and each `put_..` puts more behind them. A page that is full is
+// written to standard output and begun anew, also where it could not be written. What it has at the end, its `front`, is for the
+// program to write.
+#[derive(Drop)]
+pub struct Page<'a> {
+    pub out: Stdout,
+    pub bytes: &'a mut [u8],
+    pub end: usize,
+}
+
+impl Page<'_> {
+    #[tactic(auto, using(crate::proofs::Pages::one_more), unfolding(crate::specs::Page::with_text))]
+    pub fn put_text(&mut self, text: &[u8])
+        ensures { Puts self.old self.new text.now }
+    {
+        for &byte in text {
+            self.put_byte(byte);
+        }
     }
-    end
-}
 
-pub fn put_repeated(out: Stdout, page: &mut [u8], mut end: usize, byte: u8, count: usize) -> usize
-    ensures { paged result page.new ≡ with_text (paged end page.old) (replicate count byte) }
-{
-    let mut i = 0;
-    while i < count {
-        end = put_byte(out, page, end, byte);
-        i += 1;
+    #[tactic(auto, using(crate::proofs::Pages::one_more_repeated), unfolding(crate::specs::Page::with_text))]
+    pub fn put_repeated(&mut self, byte: u8, count: usize)
+        ensures { Puts self.old self.new (replicate count byte) }
+    {
+        for _ in 0..count {
+            self.put_byte(byte);
+        }
     }
-    end
-}
 
-// The number's digits, with blanks before them where they are fewer than the width.
-pub fn put_decimal(out: Stdout, page: &mut [u8], end: usize, n: u64, width: usize) -> usize
-    ensures { paged result page.new ≡ with_text (paged end page.old) (filled_before blank width (digits 10 n)) }
-{
-    let mut digits = [0u8; 20];
-    let count = io::decimal(n, &mut digits);
-    put_filled_before(out, page, end, b' ', width, &digits[..count])
-}
-
-// The same, with the blanks behind them.
-pub fn put_decimal_left(out: Stdout, page: &mut [u8], end: usize, n: u64, width: usize) -> usize
-    ensures { paged result page.new ≡ with_text (paged end page.old) (filled_behind blank width (digits 10 n)) }
-{
-    let mut digits = [0u8; 20];
-    let count = io::decimal(n, &mut digits);
-    let behind = put_text(out, page, end, &digits[..count]);
-    put_repeated(out, page, behind, b' ', lacking(count, width))
-}
-
-// The number's hexadecimal digits, in lower case, with zeros before them where they are fewer than the width.
-pub fn put_hexadecimal(out: Stdout, page: &mut [u8], end: usize, n: u64, width: usize) -> usize
-    ensures { paged result page.new ≡ with_text (paged end page.old) (filled_before zero_character width (digits 16 n)) }
-{
-    let mut digits = [0u8; 16];
-    let count = io::hex(n, 1, &mut digits);
-    put_filled_before(out, page, end, b'0', width, &digits[..count])
-}
-
-// The text that the page has: its first `end` bytes, all where it has fewer.
-pub fn front(page: &[u8], end: usize) -> &[u8]
-    ensures { result.now ≡ text_on (paged end page.now) }
-{
-    if page.len() < end {
-        return page;
+    // The number's digits, with blanks before them where they are fewer than the width.
+    #[tactic(auto, using(crate::proofs::Spelling::spelled))]
+    pub fn put_decimal(&mut self, n: u64, width: usize)
+        ensures { Puts self.old self.new (filled_before blank width (digits 10 n)) }
+    {
+        let mut digits = [0u8; 20];
+        let count = io::decimal(n, &mut digits);
+        self.put_filled_before(b' ', width, &digits[..count]);
     }
-    &page[0..end]
-}
 
-fn put_filled_before(
-    out: Stdout,
-    page: &mut [u8],
-    end: usize,
-    filler: u8,
-    width: usize,
-    text: &[u8],
-) -> usize
-    ensures { paged result page.new ≡ with_text (paged end page.old) (filled_before filler width text.now) }
-{
-    let start = put_repeated(out, page, end, filler, lacking(text.len(), width));
-    put_text(out, page, start, text)
-}
+    // The same, with the blanks behind them.
+    #[tactic(auto, using(crate::proofs::Pages::text_append, crate::proofs::Spelling::spelled))]
+    pub fn put_decimal_left(&mut self, n: u64, width: usize)
+        ensures { Puts self.old self.new (filled_behind blank width (digits 10 n)) }
+    {
+        let mut digits = [0u8; 20];
+        let count = io::decimal(n, &mut digits);
+        self.put_text(&digits[..count]);
+        self.put_repeated(b' ', width.saturating_sub(count));
+    }
 
-// How many more than `count` make the width full.
-fn lacking(count: usize, width: usize) -> usize
-    ensures { result ≡ width - count }
-{
-    if count < width {
-        return width - count;
+    // The number's hexadecimal digits, in lower case, with zeros before them where they are fewer than the width.
+    #[tactic(auto, using(crate::proofs::Spelling::spelled))]
+    pub fn put_hexadecimal(&mut self, n: u64, width: usize)
+        ensures { Puts self.old self.new (filled_before zero_character width (digits 16 n)) }
+    {
+        let mut digits = [0u8; 16];
+        let count = io::hex(n, 1, &mut digits);
+        self.put_filled_before(b'0', width, &digits[..count]);
     }
-    0
-}
 
-// A page of no bytes takes none.
-fn put_byte(out: Stdout, page: &mut [u8], end: usize, byte: u8) -> usize
-    ensures { paged result page.new ≡ with_byte (paged end page.old) byte }
-{
-    if end < page.len() {
-        page[end] = byte;
-        return end + 1;
+    // The text that the page has: its first `end` bytes, all where it has fewer.
+    pub fn front(&self) -> &[u8]
+        ensures { result.now ≡ text_on (paged_of self.now) }
+    {
+        &self.bytes[..self.end.min(self.bytes.len())]
     }
-    let _ = out.write_all(page);
-    if page.len() == 0 {
-        return 0;
+
+    #[tactic(auto, using(crate::proofs::Pages::text_append))]
+    fn put_filled_before(&mut self, filler: u8, width: usize, text: &[u8])
+        ensures { Puts self.old self.new (filled_before filler width text.now) }
+    {
+        self.put_repeated(filler, width.saturating_sub(text.len()));
+        self.put_text(text);
     }
-    page[0] = byte;
-    1
+
+    // A page of no bytes takes none.
+    #[tactic(auto, using(crate::proofs::Pages::byte_put), unfolding(crate::specs::Page::with_text))]
+    fn put_byte(&mut self, byte: u8)
+        ensures { Puts self.old self.new (byte ∷ []) }
+    {
+        if self.end >= self.bytes.len() {
+            let out = self.out;
+            let _ = out.write_all(self.front());
+            self.end = 0;
+        }
+        if self.end < self.bytes.len() {
+            self.bytes[self.end] = byte;
+            self.end += 1;
+        }
+    }
 }

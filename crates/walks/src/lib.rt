@@ -8,6 +8,7 @@ ghost use Rattle.walks.specs.Walk.{left_of};
 use answers::Refusal;
 
 // How many bytes are left from a position of a body on, or 26, 23.
+#[tactic(auto, using(fields::proofs::Choices::choices), unfolding(crate::specs::Walk::left_of))]
 pub fn left_at(body: &[u8], position: usize) -> Result<usize, Refusal>
     ensures { says 0 result ≡ left_of body.now position }
 {

@@ -1,8 +1,0 @@
--- `gathering::given_all` is safe and ends: its turns are counted down. Assumes nothing.
-use Rattle.replay.proofs.gathering.given_all.Given as goal
-
-abbrev pub invariant-loop-turns : goal.invariant-loop-turns
-invariant-loop-turns l = Unit {0}
-
-abbrev pub decreases-loop-turns : goal.decreases-loop-turns
-decreases-loop-turns l = l.turns
