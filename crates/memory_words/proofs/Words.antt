@@ -193,10 +193,10 @@ words_remember answer words section range =
 
 -- ---- four numbers, compared as one word
 
-record LabelFits (label : Label) : Type 0 where
-  byte : label.table_id < 256
-  bytes : label.id < 65536
-  version : label.version < 256
+pub record LabelFits (label : Label) : Type 0 where
+  pub byte : label.table_id < 256
+  pub bytes : label.id < 65536
+  pub version : label.version < 256
 
 same_bit : (a b : Bool) → ◌≡◌ {A = ℕ} (when a then 1 else 0) (when b then 1 else 0) → a ≡ b
 same_bit a b e = sym (flag_again a) ∙ ap (λ (n : ℕ). n is 1) e ∙ flag_again b
@@ -214,16 +214,20 @@ same_numbers : (memory : Memory) (label : Label) → Agreeing memory label → n
 same_numbers memory label same = rw (same.table_id, same.id, same.version, same.current) refl
 
 -- the words' four numbers are the label's exactly if their word is
-pub agree_by_word : (words : List ℕ) (label : Label) → label.table_id < 256 → label.id < 65536 → label.version < 256
-    → length words ≡ memory_words → agree words label ≡ (word words 0 % 2 ^ 33 is numbers_in label)
-agree_by_word words label byte bytes version five =
-    let fits : LabelFits label = record { byte = byte; bytes = bytes; version = version } in
+pub agree_by_word : (words : List ℕ) (label : Label) → LabelFits label → length words ≡ memory_words
+    → agree words label ≡ (word words 0 % 2 ^ 33 is numbers_in label)
+agree_by_word words label fits five =
     let its = numbers_in_words words five in
     test_holds _ _ _ (eq-eqb _ _ five)
     ∙ by_test (agrees (memory_in words) label)
     (λ same. same ∙ sym (eq-eqb _ _ (sym its ∙ same_numbers _ label (agreeing _ label same))))
     (λ other. other
     ∙ sym (ne_eqb _ _ (λ e. true≢false (sym (agrees_if _ label (numbers_tell _ label (memory_in_fits words) fits (its ∙ e))) ∙ other))))
+
+pub agree_at_once : (words : List ℕ) (label : Label) → label.table_id < 256 → label.id < 65536 → label.version < 256
+    → length words ≡ memory_words → agree words label ≡ (word words 0 % 2 ^ 33 is numbers_in label)
+agree_at_once words label byte bytes version five =
+    agree_by_word words label (record { byte = byte; bytes = bytes; version = version }) five
 
 -- ---- what the code does, by whether they agree and by the answer
 

@@ -80,7 +80,7 @@ pub fn are_sound(words: &[u64], form: Form) -> bool
 }
 
 // Whether the four numbers that these words remember are the label's, at one comparison.
-#[tactic(auto, using(fields::proofs::Choices::choices, crate::proofs::Words::agree_by_word))]
+#[tactic(auto, using(fields::proofs::Choices::choices, crate::proofs::Words::agree_at_once))]
 fn agree(words: &[u64], label: Label) -> bool
     ensures { result ≡ agree words.now label }
 {
