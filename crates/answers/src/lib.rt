@@ -5,7 +5,7 @@ ghost use Rattle.std.specs.Prelude.{◌≡◌};
 ghost use Rattle.answers.specs.Refusals.{number_of};
 
 // The rows that are asked for by number: what a step does, the refusals that make a reader forget, and those that tell numbers, which are cases of the
-// calls' own errors.
+// calls' own errors. (Numbers, not an enum: `delivered::section`, `Memory::after` and C take any number for an answer.)
 #[derive(Drop)]
 pub struct Answer;
 

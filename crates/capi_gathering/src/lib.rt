@@ -1,4 +1,5 @@
 // The C face of gathering: the state and both steps; and of the CRC, so that the steps and C call one copy of it.
+// (C's structs, so numbers beside one another: `capi_numbers` says how.)
 #![tactic(auto)]
 
 ghost use Rattle.std.specs.Prelude.{◌+◌, ◌≤◌, ◌≡◌, true, length, take, drop};
@@ -45,7 +46,7 @@ fn form_number(form: Form) -> u8
     form as u8
 }
 
-// The form of a number that names one.
+// The form of a number that names one. (No TryFrom: a number that names none was refused before, and a second test would cost.)
 #[tactic(auto, using(fields::proofs::Choices::choices), unfolding(crate::specs::Gathering::form_of))]
 fn form_of(number: u8) -> Form
     requires { number ≤ 2 }

@@ -1,4 +1,5 @@
 // The C face of packets: header, counter, payload.
+// (C's structs, so numbers beside one another: `capi_numbers` says how.)
 #![tactic(auto)]
 
 ghost use Rattle.std.specs.Prelude.{◌≡◌};

@@ -6,6 +6,7 @@ ghost use Rattle.delivered.specs.Delivered.{part_of, section_of};
 
 use answers::Answer;
 
+// (Nowhere is a case, and a place no Option: `section` takes any place that C names.)
 #[derive(Clone, Copy, PartialEq, Eq, Debug)]
 pub enum Holder {
     Nowhere,

@@ -26,7 +26,8 @@ impl Buffer {
     pub const SIZE: usize = 1024;
 }
 
-// What every step tests first: the payload's place, or 3, 4, 5, 25, 6, 7, 8.
+// What every step tests first: the payload's place, or 3, 4, 5, 25, 6, 7, 8. (What stands behind it asks for both lengths in a `requires`: as arrays of these lengths, packet
+// and buffer would be tested a second time in each step.)
 pub fn checked(is_sound: bool, packet: &[u8], buffer: usize) -> Result<usize, Refusal>
     ensures { payload_says result ≡ checked is_sound packet.now buffer }
 {

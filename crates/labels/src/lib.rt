@@ -25,7 +25,7 @@ fn table_id(section: &[u8]) -> u8
     }
 }
 
-// The table header, or zeros where there is none.
+// The table header, or zeros where there is none. (With `unwrap_or_default` the proof did not close: the derive says zero field by field.)
 fn table(section: &[u8]) -> TableSyntaxHeader
     ensures { result ≡ table_of section.now }
 {

@@ -16,7 +16,8 @@ pub enum Form {
     Once,
 }
 
-// What ONCE remembers of the sections that it delivered: the four numbers that they have in common, and a mark for the number of each. All zero is none.
+// What ONCE remembers of the sections that it delivered: the four numbers that they have in common, and a mark for the number of each. All zero is none. (No
+// Option: a host hands back any numbers, and those that are not sound are answered 25.)
 #[derive(Clone, Copy, PartialEq, Eq, Debug)]
 pub struct Memory {
     pub table_id: u8,

@@ -26,7 +26,7 @@ pub use memory::{Form, Memory};
 use memory_words::{are_sound, words_of};
 use psi::Section;
 
-// The state.
+// The state. (A flag and two counts, no Option of counts: a host hands back any of them, and a state that is not sound is answered 25 and given back.)
 #[derive(Clone, Copy)]
 pub struct Reader {
     pub form: Form,
