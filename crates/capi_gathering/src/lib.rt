@@ -104,9 +104,8 @@ fn gathering_from_c(reader: JambpepperReader) -> Gathering
 fn gathering_for_c(gathering: Gathering) -> JambpepperReader
     ensures { result ≡ gathering_for_c gathering }
 {
-    let form = gathering.form;
     JambpepperReader {
-        form: form_number(form),
+        form: form_number(gathering.form),
         is_open: gathering.is_open as u8,
         held: gathering.held,
         wanted: gathering.wanted,
@@ -117,20 +116,18 @@ fn gathering_for_c(gathering: Gathering) -> JambpepperReader
 fn place_for_c(place: Place) -> JambpepperPlace
     ensures { result ≡ place_for_c place }
 {
-    let holder = place.holder;
     JambpepperPlace {
         start: place.start,
         length: place.len,
-        holder: holder_number(holder),
+        holder: holder_number(place.holder),
     }
 }
 
 fn step_for_c(step: GatheringStep) -> JambpepperStep
     ensures { result ≡ gathering_step_for_c (gathering_step_says step) }
 {
-    let gathering = step.gathering;
     JambpepperStep {
-        reader: gathering_for_c(gathering),
+        reader: gathering_for_c(step.gathering),
         place: place_for_c(place(step.answer)),
         answer: number(step.answer),
     }

@@ -101,10 +101,9 @@ pub extern "C" fn jambpepper_pmt_start(body: &[u8]) -> JambpepperPmt
 {
     match PmtSection::start(body) {
         Ok(section) => {
-            let descriptors = section.descriptors;
             JambpepperPmt {
-                descriptors_start: descriptors.start,
-                descriptors_length: descriptors.len,
+                descriptors_start: section.descriptors.start,
+                descriptors_length: section.descriptors.len,
                 streams: section.streams,
                 needed: 0,
                 actual: 0,
@@ -145,10 +144,9 @@ pub extern "C" fn jambpepper_stream_at(body: &[u8], position: usize) -> Jambpepp
 {
     match PmtSection::stream_at(body, position) {
         Ok((stream, next)) => {
-            let info = stream.info;
             JambpepperStream {
-                info_start: info.start,
-                info_length: info.len,
+                info_start: stream.info.start,
+                info_length: stream.info.len,
                 next,
                 offset: 0,
                 elementary_pid: stream.elementary_pid,

@@ -196,16 +196,20 @@ impl GatheringStep {
     fn remembered(self, memory: Memory, section: &[u8]) -> Step
         ensures { step_says result ≡ remembered memory (gathering_step_says self) section.now }
     {
-        let gathering = self.gathering;
-        let form = gathering.form;
-        let answer = self.answer;
+        let GatheringStep { gathering, answer } = self;
+        let Gathering {
+            form,
+            is_open,
+            held,
+            wanted,
+        } = gathering;
         Step {
             reader: Reader {
                 form,
                 memory: memory.after(number(answer), form, section),
-                is_open: gathering.is_open,
-                held: gathering.held,
-                wanted: gathering.wanted,
+                is_open,
+                held,
+                wanted,
             },
             answer,
         }
@@ -221,11 +225,8 @@ fn pointer_at(packet: &[u8], start: usize) -> Pointer
         return Pointer::NoUnitStart;
     }
     let to = (word(packet, start, 1) % 256) as usize;
-    if 0 < to {
-        if packet.len() - start - 1 <= to {
-            return Pointer::BeyondRest;
-        }
-        return Pointer::To(to);
+    if 0 < to && packet.len() - start - 1 <= to {
+        return Pointer::BeyondRest;
     }
     Pointer::To(to)
 }
@@ -295,8 +296,7 @@ impl Gathering {
                 self.continued(&packet[from..end], buffer)
             }
             Pointer::BeyondRest => {
-                let form = self.form;
-                GatheringStep::ended(Err(Refusal::PointerBeyondRest), form)
+                GatheringStep::ended(Err(Refusal::PointerBeyondRest), self.form)
             }
         }
     }
@@ -387,7 +387,6 @@ impl Gathering {
         requires { (length packet.now ≡ size) × (start < size) × (length buffer.old ≡ buffer_length) }
         ensures { gathered (gathering_step_says result) buffer.new ≡ gathered_of (head_from (with_memory (memory_in memory.now) self) packet.now start buffer.old) }
     {
-        let form = self.form;
         match pointer_at(packet, start) {
             Pointer::NoUnitStart => {
                 let answer = Ok(Progress::NothingForThisStep);
@@ -398,9 +397,11 @@ impl Gathering {
             }
             Pointer::To(to) => {
                 let at = start + 1 + to;
-                started(form, memory, &packet[at..], at, buffer)
+                started(self.form, memory, &packet[at..], at, buffer)
             }
-            Pointer::BeyondRest => GatheringStep::ended(Err(Refusal::PointerBeyondRest), form),
+            Pointer::BeyondRest => {
+                GatheringStep::ended(Err(Refusal::PointerBeyondRest), self.form)
+            }
         }
     }
 

@@ -3,7 +3,7 @@ use mathlib.Core.Path.{refl}
 use native.Mathlib.Omega.{arith}
 use native.Mathlib.Nat.{div-one}
 use lib.ListN.{length-drop}
-use borrow.Author.Tests.{eq-eqb, ne_eqb, lt-ltb, le-ltb, le-leb, lt-leb}
+use borrow.Author.Tests.{eq-eqb, ne_eqb, lt-ltb, le-leb}
 use Rattle.fields.specs.Choice.{when◌then◌else◌}
 use Rattle.fields.specs.SyntaxTable.{size, behind, width}
 use Rattle.fields.proofs.SyntaxTables.{field_of_word}
@@ -33,21 +33,6 @@ returns-then-packet-start c =
     )
     (simp (eq-eqb _ _ c.if-word-ne1.false, lt-ltb _ _ c.if-to-gt0.true, le-leb _ _ c.if-packet-start.true))
 
-pub returns-then-to-gt0 : goal.returns-then-to-gt0
-unfolding pointer_of when◌then◌else◌ size behind width
-returns-then-to-gt0 c =
-    let packet = c.args.packet.now in
-    let start = c.args.start in
-    let bits = c.word in
-    let byte = c.word-2 in
-    simp (
-      header_field packet bits.result (omega arith) bits.ensures,
-      field_of_word pointer_field packet start 1 byte.result (omega arith) refl byte.ensures,
-      div-one,
-      length-drop,
-    )
-    (simp (eq-eqb _ _ c.if-word-ne1.false, lt-ltb _ _ c.if-to-gt0.true, lt-leb _ _ c.if-packet-start.false))
-
 pub returns : goal.returns
 unfolding pointer_of when◌then◌else◌ size behind width
 returns c =
@@ -61,4 +46,4 @@ returns c =
       div-one,
       length-drop,
     )
-    (simp (eq-eqb _ _ c.if-word-ne1.false, le-ltb _ _ c.if-to-gt0.false))
+    (grind arith)
