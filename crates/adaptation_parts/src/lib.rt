@@ -49,7 +49,8 @@ fn behind(pcr: bool, opcr: bool, countdown: bool) -> usize
     PCR_OFFSET + PCR_SIZE * pcr as usize + PCR_SIZE * opcr as usize + countdown as usize
 }
 
-// Each part tests its flag and its end. (Not in one function: its definition and its law would be longer than the two tests.)
+// Each part tests its flag and its end, and is asked where it lies. (Not in one function, and no struct for the three: its definition and its laws would be longer than
+// the two tests.)
 
 // The PCR or OPCR at `at` of the field. (An OPCR's rows are a PCR's, under names of its own.)
 fn clock_at(field: &[u8], flag: bool, at: usize) -> Result<ClockRef, Refusal>

@@ -8,6 +8,7 @@ ghost use Rattle.capi_delivered.specs.Delivered.{holder_of, place_from_c, sectio
 use capi_numbers::JambpepperPlace;
 use delivered::{Holder, Place, section};
 
+// The holder of C's number; nowhere for any other, so that this is no TryFrom.
 #[tactic(auto, using(fields::proofs::Choices::choices), unfolding(crate::specs::Delivered::holder_of))]
 fn holder_of(number: u8) -> Holder
     ensures { result ≡ holder_of number }

@@ -26,7 +26,7 @@ fn main(rt: HostRuntime) -> io::Result<()> {
     compare_all(out, &list[..size])
 }
 
-// Reads until the room is full or the input ends, and answers how many bytes came.
+// Reads until the room is full or the input ends, and answers how many bytes came. (The library's calls that read to the end take the heap.)
 fn read_full(mut input: Stdin, room: &mut [u8]) -> io::Result<usize>
     ensures { IfOk result (λ count. count ≤ length room.new) }
 {

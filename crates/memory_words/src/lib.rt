@@ -79,7 +79,7 @@ pub fn are_sound(words: &[u64], form: Form) -> bool
     words.len() != 5 || memory_of(words).is_sound(form)
 }
 
-// Whether the four numbers that these words remember are the label's, at one comparison.
+// Whether the four numbers that these words remember are the label's, at one comparison, where `memory::Memory` makes four: these words are the step's, and four took longer.
 #[tactic(auto, using(fields::proofs::Choices::choices, crate::proofs::Words::agree_at_once))]
 fn agree(words: &[u64], label: Label) -> bool
     ensures { result ≡ agree words.now label }

@@ -15,7 +15,7 @@ use Rattle.fields.specs.BitString.{number_at}
 use Rattle.fields.specs.Word.{word_of}
 use Rattle.fields.proofs.BitStrings.{byte_more, number_at_lt}
 use Rattle.fields.proofs.SyntaxTables.{word_there}
-use Rattle.crc_steps.specs.BitSteps.{bits_enter}
+use Rattle.crc_steps.specs.BitSteps.{◌plus_polynomial_if◌, bit_step, bit_enters, bits_enter}
 use Rattle.crc_steps.specs.StepTable.{entry_of}
 use Rattle.mpegts_crc.specs.Crc.{all_ones, crc_from, crc_of}
 use Rattle.crc_steps.proofs.Steps.{enter_lt, enter_join, enter_mod, index_lt, table_step}
@@ -61,6 +61,19 @@ first_turn {eight} register bytes padding m l h start number =
     (ap (bits_enter (padding * 8) register) (div-eq_of_lt (number_at_lt bytes 0 (n * 8) (omega arith))) ∙ start)
     ∙ sym (word_enters n all_ones bytes l h))
     ∙ taken_then_dropped all_ones n bytes
+
+-- these registers, which none to seven bytes of zero bring to all ones
+pub start_registers :
+    (bits_enter (0 * 8) 0xffff_ffff 0 ≡ all_ones)
+    × (bits_enter (1 * 8) 0x9bf1_a90f 0 ≡ all_ones)
+    × (bits_enter (2 * 8) 0x09b9_3859 0 ≡ all_ones)
+    × (bits_enter (3 * 8) 0x8164_74c5 0 ≡ all_ones)
+    × (bits_enter (4 * 8) 0x46af_6449 0 ≡ all_ones)
+    × (bits_enter (5 * 8) 0x339f_de2f 0 ≡ all_ones)
+    × (bits_enter (6 * 8) 0x68b9_32f5 0 ≡ all_ones)
+    × (bits_enter (7 * 8) 0x955a_6162 0 ≡ all_ones)
+unfolding ◌plus_polynomial_if◌ bit_step bit_enters bits_enter
+start_registers = (refl, refl, refl, refl, refl, refl, refl, refl)
 
 -- what turns of eight bytes leave of all
 pub record Left (bytes left : List ℕ) : Type 0 where

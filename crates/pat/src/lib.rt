@@ -20,6 +20,7 @@ pub enum ProgramDescriptor {
 }
 
 // Why there is no entry: 24, and the offset in the body of the one to three bytes that are left; or 23, 26.
+// (An error of its own, as a PMT's: one for both would need a type for each walk's reasons, and a trait for their numbers.)
 #[derive(Clone, Copy, PartialEq, Eq, Debug)]
 pub enum ProgramRefusal {
     Tail { offset: usize },

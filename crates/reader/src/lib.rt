@@ -68,7 +68,7 @@ pub struct GatheringStep {
     pub answer: Result<Progress, Refusal>,
 }
 
-// What the payload's first byte says.
+// What the payload's first byte says. (No Result: a pointer beyond the rest ends the section that is open too, and three cases read as the rule does.)
 #[derive(Clone, Copy)]
 pub enum Pointer {
     NoUnitStart,
@@ -231,12 +231,14 @@ fn pointer_at(packet: &[u8], start: usize) -> Pointer
     Pointer::To(to)
 }
 
-// Lays the bytes into the buffer, from the place `at` on.
+// Lays the bytes into the buffer, from the place `at` on. (Byte by byte: `copy_from_slice` calls `memmove`, and the archive for C calls nothing of the host's.)
 fn lay(buffer: &mut [u8], at: usize, bytes: &[u8])
     requires { at + length bytes.now ≤ length buffer.old }
     ensures { buffer.new ≡ laid buffer.old at bytes.now }
 {
-    buffer[at..at + bytes.len()].copy_from_slice(bytes);
+    for i in 0..bytes.len() {
+        buffer[at + i] = bytes[i];
+    }
 }
 
 // How a whole section that lies there ends.

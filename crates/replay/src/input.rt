@@ -7,6 +7,7 @@ use std::io::{Read, Stdin};
 // The longest line with its end: the largest buffer and packet, two digits for a byte, and room for the words and numbers.
 pub const LINE: usize = 524800;
 
+// (An array, no Vec: where memory is out the program would end in another way.)
 // How far the input is read: the bytes room[from..to] have come and are no line that was handed out.
 #[derive(Drop)]
 pub struct Input {

@@ -7,7 +7,7 @@ use reader::{Form, Holder, Place, Reader, Step};
 // The largest buffer and packet: a place's start and length are below 65,536 each.
 const ROOM: usize = 131072;
 
-// Bytes, as many as there is room for.
+// Bytes, as many as there is room for. (No Vec: where memory is out the program would end in another way.)
 #[derive(Drop)]
 pub struct Bytes {
     pub room: [u8; ROOM],
@@ -42,7 +42,7 @@ impl Bytes {
     }
 }
 
-// The reader, the answer of the step that was worked last and its place, and the bytes that the next step is worked on.
+// The reader, the answer of the step that was worked last (a number: a request may give any) and its place, and the bytes that the next step is worked on.
 #[derive(Drop)]
 pub struct Kept {
     pub reader: Reader,

@@ -67,6 +67,7 @@ pub fn asked(env: &impl Env) -> Result<Task, Wrong> {
     };
     let mut room = [0u8; WORD];
     let mut arguments = Arguments { env, at: 0 };
+    // Nothing says that the words end: so there is a number of turns, which no run uses up.
     for _ in 0..u64::MAX {
         let Some(word) = arguments.next(&mut room)? else {
             break;

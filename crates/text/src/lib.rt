@@ -10,7 +10,7 @@ use std::io::{Print, Stdout};
 
 // A page that text is put on. Its first `end` bytes are text, and each `put_..` puts more behind them. A page that is full is
 // written to standard output and begun anew, also where it could not be written. What it has at the end, its `front`, is for the
-// program to write.
+// program to write. (The bytes are lent, with any count beside them: a page of its own could not be a part of what the caller has.)
 #[derive(Drop)]
 pub struct Page<'a> {
     pub out: Stdout,

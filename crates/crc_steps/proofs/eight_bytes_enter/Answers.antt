@@ -5,6 +5,6 @@ use Rattle.crc_steps.proofs.Table.{nibble_tables}
 use Rattle.crc_steps.proofs.eight_bytes_enter.Goals as goal
 
 -- the test of the tables
-pub invariant_of-enter : goal.invariant_of-enter
+pub by_tables-requires : goal.by_tables-requires
 unfolding ◌plus_polynomial_if◌ bit_step bit_steps
-invariant_of-enter c = record { rule = nibble_tables refl }
+by_tables-requires c = nibble_tables refl

@@ -1,22 +1,25 @@
--- `reader::lay` meets its contract: the part that is copied over is the bytes, and what stands around it stays. Assumes nothing.
-use Prim.Native.Nat.{ℕ, ◌+◌}
-use mathlib.Core.Path.{◌≡◌, refl, sym, ◌∙◌}
-use mathlib.Core.List.{List, append_assoc}
+-- `reader::lay` meets its contract: before each turn the first i bytes are laid in. Assumes nothing.
+use mathlib.Core.Path.{refl, sym, ap, ◌∙◌}
 use native.Mathlib.Omega.{arith}
-use lib.ListN.{length, take, drop}
-use lib.Seq.{paste}
-use Rattle.std.proofs.lemmas.Slice.{put_mid-paste}
-use Rattle.std.proofs.lemmas.List.Edits.{paste_all}
+use lib.ListN.{length-set}
+use lib.Seq.{take_all}
 use Rattle.fields.specs.Laid.{laid}
+use Rattle.fields.proofs.LaidBytes.{laid_none, laid_one_more}
 use Rattle.reader.proofs.lay.Goals as goal
 
-pasted : (list : List ℕ) (at : ℕ) (bytes : List ℕ) → paste list at bytes (length bytes) ≡ laid list at bytes
-unfolding laid
-pasted list at bytes =
-    paste_all list at bytes (length bytes) refl ∙ sym (append_assoc (take at list) bytes (drop (at + length bytes) list))
+pub loop-i-init : goal.loop-i-init
+loop-i-init c = (omega arith, refl, sym (laid_none _ _))
+
+pub loop-i-preserved : goal.loop-i-preserved
+loop-i-preserved c =
+    let a = c.args in (
+      omega arith,
+      simp length-set c.loop-i.invariant.1,
+      rw c.loop-i.invariant.2 (laid_one_more a.buffer.now a.at a.bytes.now c.loop-i.i (omega arith) (omega arith)),
+    )
 
 pub returns : goal.returns
 returns c =
-    let a = c.args in
-    put_mid-paste a.at _ a.buffer.now _ a.bytes.now _ c.copy_from_slice.ensures.after (omega arith) refl
-    ∙ pasted a.buffer.now a.at a.bytes.now
+    let bytes = c.args.bytes.now in
+    c.loop-i.invariant.2 ∙ ap (laid c.args.buffer.now c.args.at)
+    (take_all c.loop-i.i bytes (omega arith))
