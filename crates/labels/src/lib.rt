@@ -55,6 +55,7 @@ impl Label {
         }
     }
 
+    #[tactic(auto, unfolding(crate::specs::Label::label_of))]
     pub fn of(section: &[u8]) -> Label
         ensures { result ≡ label_of section.now }
     {
