@@ -40,6 +40,7 @@ pub struct JambpepperStep {
     pub answer: u8,
 }
 
+// C's number, under the definition's name.
 fn form_number(form: Form) -> u8
     ensures { result ≡ form_number form }
 {
@@ -60,6 +61,7 @@ fn form_of(number: u8) -> Form
     }
 }
 
+// C's number, under the definition's name.
 fn holder_number(holder: Holder) -> u8
     ensures { result ≡ holder_number holder }
 {

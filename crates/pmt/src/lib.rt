@@ -34,6 +34,7 @@ pub struct StreamInfo {
 }
 
 // Why there is no stream: 27 or 28, and the offset in the body of the entry of which under 5 bytes are left, or whose info passes the end; or 23, 26.
+// (An error of its own, as a PAT's: `pat::ProgramRefusal` says why.)
 #[derive(Clone, Copy, PartialEq, Eq, Debug)]
 pub enum StreamRefusal {
     Under5 { offset: usize },

@@ -304,6 +304,7 @@ impl Gathering {
     }
 
     // The tail step, where what is remembered is lent as words; `memory_words::remember` writes what ONCE remembers after it.
+    // (Beside `head_with`: two contracts over two definitions.)
     pub fn tail_with(self, memory: &[u64], packet: &[u8], buffer: &mut [u8]) -> GatheringStep
         ensures { gathered (gathering_step_says result) buffer.new ≡ gathered_of (tail_of (with_memory (memory_in memory.now) self) packet.now buffer.old) }
     {

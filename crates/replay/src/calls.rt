@@ -3,6 +3,7 @@ use crate::arguments::Fault;
 use crate::line::Page;
 use crate::{adaptation_fields, bodies, crc, packets, sections};
 
+// (An enum, not its function at once: all names of a line are looked up before the first answer is put.)
 #[derive(Clone, Copy, Debug, PartialEq, Eq)]
 enum Call {
     ProgramAt,

@@ -34,7 +34,7 @@ impl Kept {
     // Reads what a request gives in the place of what is kept, and answers whether bytes are to be shown.
     pub fn read(&mut self, mut arguments: Arguments) -> Result<bool, Fault> {
         let mut shows_bytes = false;
-        // Each turn reads a word, and no line has as many. (A `while let` wants a measure, and so a clause on each function that reads.)
+        // Each turn reads a word: a `while let` wants a measure, and so a clause on each function that reads.
         for _ in 0..u64::MAX {
             let Some(name) = arguments.word() else {
                 break;
@@ -188,6 +188,7 @@ fn memory(arguments: &mut Arguments) -> Result<Memory, Fault> {
     })
 }
 
+// (No TryFrom: it would be a public function of the form's own crate.)
 pub fn form(arguments: &mut Arguments) -> Result<Form, Fault> {
     match arguments.number::<u64>()? {
         0 => Ok(Form::Compact),

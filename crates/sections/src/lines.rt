@@ -1,5 +1,6 @@
 // The lines of the report. The first word of a line says what it is; the number behind `section`, `refused` and `skipped` is the
-// packet's, counted from 0. What puts several lines answers how the first was written: an output that fails goes on failing.
+// packet's, counted from 0. What puts several lines answers how the first was written: an output that fails goes on failing. (Output
+// and packet's number are handed on as they are: two words, in six functions.)
 use crate::names;
 use answers::{Answer, Refusal};
 use pat::{PatSection, ProgramDescriptor, ProgramRefusal};

@@ -135,6 +135,7 @@ pub fn word_at<'r>(env: &impl Env, at: usize, room: &'r mut [u8]) -> &'r [u8] {
     }
 }
 
+// (No TryFrom: it would be a public function of the form's own crate.)
 fn form(word: &[u8]) -> Option<Form> {
     match word {
         b"compact" => Some(Form::Compact),
