@@ -1,6 +1,8 @@
 -- A page that text is put on.
-use Rattle.std.specs.Prelude.{◌≡◌, ℕ, ◌+◌, ◌<◌, ◌≤◌, List, [], ◌∷◌, ◌++◌, length, set, take}
+use Rattle.std.specs.Prelude.{ℕ, ◌+◌, ◌<◌, ◌≤◌, List, [], ◌∷◌, ◌++◌, length, set, take}
 use Rattle.fields.specs.Choice.{when◌then◌else◌, ◌is_below◌}
+use Rattle.std.specs.declared.rt.Stdout.{Stdout}
+use base.Fml.{GName}
 use Rattle.text.specs.declared.Page as declared
 
 -- how many bytes are text, from the front on, and all the bytes of the page
@@ -43,8 +45,15 @@ unfoldable pub written : Page → List ℕ → List ℕ
 written page [] = []
 written page (byte ∷ text) = written_for page ++ written (with_byte page byte) text
 
--- what putting text on a page leaves: the text on it; the output and the lent bytes are those that it had
-pub record Puts (old new : declared.Page) (text : List ℕ) : Type 0 where
-  pub text_put : paged_of new ≡ with_text (paged_of old) text
-  pub same_out : new.out ≡ old.out
-  pub same_bytes : new.bytes.ghost_name ≡ old.bytes.ghost_name
+-- a page of a program: what it is, its output, and which bytes it is lent
+pub record Lent : Type 0 where
+  pub page : Page
+  pub out : Stdout
+  pub bytes : GName
+
+abbrev pub lent : declared.Page → Lent
+lent page = record { page = paged_of page; out = page.out; bytes = page.bytes.ghost_name }
+
+-- text more on it; the output and the lent bytes are those that it had
+abbrev pub with_text_put : Lent → List ℕ → Lent
+with_text_put page text = record { page = with_text page.page text; out = page.out; bytes = page.bytes }
