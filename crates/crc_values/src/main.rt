@@ -5,9 +5,13 @@
 ghost use Rattle.std.specs.Prelude.{◌≤◌, ◌<◌, length, IfOk, IfSome};
 
 use std::io;
-use std::io::{Read, Stdin, Stdout};
+use std::io::{Print, Read, Stdin, Stdout};
+use text::Page;
 
 const ROOM: usize = 131072;
+
+// Room for a line.
+const LINE: usize = 128;
 
 // A vector of the list.
 #[derive(Clone, Copy)]
@@ -21,7 +25,7 @@ fn main(rt: HostRuntime) -> io::Result<()> {
     let mut list = [0u8; ROOM];
     let size = read_full(rt.stdin(), &mut list)?;
     if size == ROOM {
-        return println!(out; "The list is too long for this program.");
+        return out.write_all(b"The list is too long for this program.\n");
     }
     compare_all(out, &list[..size])
 }
@@ -52,9 +56,23 @@ fn compare_all(out: Stdout, mut list: &[u8]) -> io::Result<()> {
         list = rest;
     }
     if !list.is_empty() {
-        println!(out; "The list is cut short.")?;
+        out.write_all(b"The list is cut short.\n")?;
     }
-    println!(out; "{compared} compared, {differ} differ.")
+    say_counts(out, compared, differ)
+}
+
+fn line_on(out: Stdout, bytes: &mut [u8]) -> Page<'_> {
+    Page { out, bytes, end: 0 }
+}
+
+fn say_counts(out: Stdout, compared: u64, differ: u64) -> io::Result<()> {
+    let mut room = [0u8; LINE];
+    let mut line = line_on(out, &mut room);
+    line.put_decimal(compared, 1);
+    line.put_text(b" compared, ");
+    line.put_decimal(differ, 1);
+    line.put_text(b" differ.\n");
+    out.write_all(line.front())
 }
 
 // The list's first vector, and what is behind it; none where the list ends before the vector does.
@@ -76,7 +94,20 @@ fn agrees(out: Stdout, number: u64, vector: Vector<'_>) -> bool {
     let found = mpegts_crc::sum32(vector.bytes);
     let listed = vector.crc;
     if found != listed {
-        let _ = println!(out; "Vector {number}: {found:08x}, and the list has {listed:08x}.");
+        let _ = say_difference(out, number, found, listed);
     }
     found == listed
+}
+
+fn say_difference(out: Stdout, number: u64, found: u32, listed: u32) -> io::Result<()> {
+    let mut room = [0u8; LINE];
+    let mut line = line_on(out, &mut room);
+    line.put_text(b"Vector ");
+    line.put_decimal(number, 1);
+    line.put_text(b": ");
+    line.put_hexadecimal(u64::from(found), 8);
+    line.put_text(b", and the list has ");
+    line.put_hexadecimal(u64::from(listed), 8);
+    line.put_text(b".\n");
+    out.write_all(line.front())
 }

@@ -1,6 +1,7 @@
 // The lines of the report. The first word of a line says what it is; the number behind `section`, `refused` and `skipped` is the
 // packet's, counted from 0. What puts several lines answers how the first was written: an output that fails goes on failing. (Output
 // and packet's number are handed on as they are: two words, in six functions.)
+use crate::line::{Line, ROOM};
 use crate::names;
 use answers::{Answer, Refusal};
 use pat::{PatSection, ProgramDescriptor, ProgramRefusal};
@@ -8,8 +9,7 @@ use pmt::{PmtSection, StreamInfo, StreamRefusal, TooShort};
 use psi::{Section, TableSyntaxHeader};
 use reader::Form;
 use std::io;
-use std::io::{Print, Stdout};
-use text::Page;
+use std::io::Stdout;
 
 const PAT: u8 = 0x00;
 
@@ -18,26 +18,38 @@ const PMT: u8 = 0x02;
 // How many bytes stand in a line of bytes.
 const ROW: usize = 16;
 
-// Room for some lines of bytes; what is longer is written in parts.
-const ROOM: usize = 256;
-
 pub fn put_heading(out: Stdout, pid: u16, form: Form) -> io::Result<()> {
-    let form = names::of_form(form);
-    println!(out;
-        "sections of PID {pid} (0x{pid:04x}), form {form}\n\
-         \n            \
-         packet  table         id  version  when     section     bytes"
-    )
+    let mut room = [0u8; ROOM];
+    let mut line = Line::new(out, &mut room);
+    line.put_text("sections of PID ");
+    line.put_pid(pid, 1);
+    line.put_text(", form ");
+    line.put_text(names::of_form(form));
+    line.put_text(
+        "\n\n            packet  table         id  version  when     section     bytes\n",
+    );
+    line.write()
 }
 
 pub fn put_refused(out: Stdout, packet: u64, refusal: Refusal) -> io::Result<()> {
-    let number = refusal.number();
-    let meaning = names::of_refusal(refusal);
-    println!(out; "refused {packet:>10}  {number}: {meaning}")
+    let mut room = [0u8; ROOM];
+    let mut line = Line::new(out, &mut room);
+    line.put_text("refused ");
+    line.put_number(packet, 10);
+    line.put_text("  ");
+    line.put_refusal(refusal);
+    line.write()
 }
 
 pub fn put_skipped(out: Stdout, packet: u64, bytes: u64) -> io::Result<()> {
-    println!(out; "skipped {packet:>10}  {bytes} bytes that are no packet")
+    let mut room = [0u8; ROOM];
+    let mut line = Line::new(out, &mut room);
+    line.put_text("skipped ");
+    line.put_number(packet, 10);
+    line.put_text("  ");
+    line.put_number(bytes, 1);
+    line.put_text(" bytes that are no packet\n");
+    line.write()
 }
 
 // A delivered section: its line, and the entries of a PAT or PMT below it.
@@ -53,10 +65,13 @@ pub fn put_section(out: Stdout, packet: u64, form: Form, section: &[u8]) -> io::
 
 // A COMPACT section has no table header.
 fn put_compact(out: Stdout, packet: u64, table_id: u8, size: usize) -> io::Result<()> {
-    let table = names::of_table(table_id);
-    println!(out;
-        "section {packet:>10}  0x{table_id:02x} {table:<4}      -        -  -          -          {size:>5}"
-    )
+    let mut room = [0u8; ROOM];
+    let mut line = Line::new(out, &mut room);
+    line.put_table(packet, table_id);
+    line.put_text("      -        -  -          -          ");
+    line.put_number(size as u64, 5);
+    line.put_text("\n");
+    line.write()
 }
 
 fn put_full(out: Stdout, packet: u64, table_id: u8, section: &[u8]) -> io::Result<()> {
@@ -84,12 +99,23 @@ fn put_table_header(
         section_number,
         last_section_number,
     } = header;
-    let table = names::of_table(table_id);
-    let when = names::of_current_next(current_next_indicator);
-    println!(out;
-        "section {packet:>10}  0x{table_id:02x} {table:<4}  {id:>5}  {version:>7}  {when:<7}  \
-         {section_number:>3} of {last_section_number:<3}  {size:>5}"
-    )
+    let mut room = [0u8; ROOM];
+    let mut line = Line::new(out, &mut room);
+    line.put_table(packet, table_id);
+    line.put_text("  ");
+    line.put_number(u64::from(id), 5);
+    line.put_text("  ");
+    line.put_number(u64::from(version), 7);
+    line.put_text("  ");
+    line.put_name(names::of_current_next(current_next_indicator), 7);
+    line.put_text("  ");
+    line.put_number(u64::from(section_number), 3);
+    line.put_text(" of ");
+    line.put_number_left(u64::from(last_section_number), 3);
+    line.put_text("  ");
+    line.put_number(size as u64, 5);
+    line.put_text("\n");
+    line.write()
 }
 
 // A body lies within its section.
@@ -116,21 +142,32 @@ fn put_map(out: Stdout, body: &[u8]) {
             let _ = put_clock(out, map);
             put_streams(out, body, map.streams);
         }
-        Err(too_short) => put_too_short(out, too_short),
+        Err(too_short) => {
+            let _ = put_too_short(out, too_short);
+        }
     }
 }
 
-fn put_too_short(out: Stdout, TooShort { needed, actual }: TooShort) {
-    let number = Answer::PMT_TOO_SHORT;
-    let _ = println!(out;
-        "  stopped at byte 0 of the body, {number}: PMT body too short, {actual} bytes of {needed}"
-    );
+fn put_too_short(out: Stdout, TooShort { needed, actual }: TooShort) -> io::Result<()> {
+    let mut room = [0u8; ROOM];
+    let mut line = Line::new(out, &mut room);
+    line.put_stop(0, Answer::PMT_TOO_SHORT);
+    line.put_text("PMT body too short, ");
+    line.put_number(actual as u64, 1);
+    line.put_text(" bytes of ");
+    line.put_number(needed as u64, 1);
+    line.put_text("\n");
+    line.write()
 }
 
 fn put_clock(out: Stdout, map: PmtSection) -> io::Result<()> {
-    let pid = map.pcr_pid;
-    let size = map.descriptors.len;
-    println!(out; "  PCR     PID {pid:>4} (0x{pid:04x})  info {size:>4} bytes")
+    let mut room = [0u8; ROOM];
+    let mut line = Line::new(out, &mut room);
+    line.put_text("  PCR     PID ");
+    line.put_pid(map.pcr_pid, 4);
+    line.put_info(map.descriptors.len);
+    line.put_text("\n");
+    line.write()
 }
 
 fn put_programs(out: Stdout, body: &[u8]) {
@@ -167,7 +204,7 @@ fn put_program_at(out: Stdout, body: &[u8], position: usize) -> Option<usize> {
                 ProgramRefusal::Tail { offset } => offset,
                 ProgramRefusal::Refused(_) => position,
             };
-            put_stop(
+            let _ = put_stop(
                 out,
                 offset,
                 refusal.number(),
@@ -190,7 +227,7 @@ fn put_stream_at(out: Stdout, body: &[u8], position: usize) -> Option<usize> {
                 StreamRefusal::Under5 { offset } | StreamRefusal::InfoPastEnd { offset } => offset,
                 StreamRefusal::Refused(_) => position,
             };
-            put_stop(
+            let _ = put_stop(
                 out,
                 offset,
                 refusal.number(),
@@ -202,52 +239,60 @@ fn put_stream_at(out: Stdout, body: &[u8], position: usize) -> Option<usize> {
 }
 
 // A walk that stops before the body's end says where and why.
-fn put_stop(out: Stdout, offset: usize, number: u8, meaning: &str) {
-    let _ = println!(out; "  stopped at byte {offset} of the body, {number}: {meaning}");
+fn put_stop(out: Stdout, offset: usize, number: u8, meaning: &str) -> io::Result<()> {
+    let mut room = [0u8; ROOM];
+    let mut line = Line::new(out, &mut room);
+    line.put_stop(offset, number);
+    line.put_text(meaning);
+    line.put_text("\n");
+    line.write()
 }
 
 fn put_program(out: Stdout, program: ProgramDescriptor) -> io::Result<()> {
-    match program {
-        ProgramDescriptor::Network { pid } => {
-            println!(out; "  network     0  PID {pid:>4} (0x{pid:04x})")
-        }
+    let (name, number, pid) = match program {
+        ProgramDescriptor::Network { pid } => ("  network ", 0, pid),
         ProgramDescriptor::Program {
             program_number,
             pid,
-        } => println!(out; "  program {program_number:>5}  PID {pid:>4} (0x{pid:04x})"),
-    }
+        } => ("  program ", program_number, pid),
+    };
+    let mut room = [0u8; ROOM];
+    let mut line = Line::new(out, &mut room);
+    line.put_text(name);
+    line.put_number(u64::from(number), 5);
+    line.put_text("  PID ");
+    line.put_pid(pid, 4);
+    line.put_text("\n");
+    line.write()
 }
 
 fn put_stream(out: Stdout, stream: StreamInfo) -> io::Result<()> {
-    let StreamInfo {
-        stream_type,
-        elementary_pid: pid,
-        info,
-    } = stream;
-    let size = info.len;
-    let name = names::of_stream_type(stream_type);
-    println!(out;
-        "  stream  PID {pid:>4} (0x{pid:04x})  info {size:>4} bytes  type 0x{stream_type:02x}  {name}"
-    )
+    let mut room = [0u8; ROOM];
+    let mut line = Line::new(out, &mut room);
+    line.put_text("  stream  PID ");
+    line.put_pid(stream.elementary_pid, 4);
+    line.put_info(stream.info.len);
+    line.put_text("  type 0x");
+    line.put_hexadecimal(u64::from(stream.stream_type), 2);
+    line.put_text("  ");
+    line.put_text(names::of_stream_type(stream.stream_type));
+    line.put_text("\n");
+    line.write()
 }
 
 // Bytes in lines of sixteen, each line with the place of its first.
 pub fn put_bytes(out: Stdout, bytes: &[u8]) -> io::Result<()> {
     let mut room = [0u8; ROOM];
-    let mut page = Page {
-        out,
-        bytes: &mut room,
-        end: 0,
-    };
+    let mut line = Line::new(out, &mut room);
     for (row, bytes) in bytes.chunks(ROW).enumerate() {
-        page.put_text(b"  bytes   ");
-        page.put_decimal((ROW * row) as u64, 5);
-        page.put_text(b" ");
+        line.put_text("  bytes   ");
+        line.put_number((ROW * row) as u64, 5);
+        line.put_text(" ");
         for &byte in bytes {
-            page.put_text(b" ");
-            page.put_hexadecimal(u64::from(byte), 2);
+            line.put_text(" ");
+            line.put_hexadecimal(u64::from(byte), 2);
         }
-        page.put_text(b"\n");
+        line.put_text("\n");
     }
-    out.write_all(page.front())
+    line.write()
 }

@@ -3,6 +3,7 @@
 #![tactic(auto)]
 
 mod input;
+mod line;
 mod lines;
 mod names;
 mod report;
@@ -77,9 +78,10 @@ fn work(input: &mut impl Read, streams: Streams, words: Words, name: &[u8]) {
         streams.fail(name, error);
         return;
     }
-    let mut run = Run::begun(streams.out, words);
+    let written = lines::put_heading(streams.out, words.pid, words.form);
+    let mut run = Run::begun(streams.out, words, written);
     let read = run.work_all(input);
-    finish(run, read, streams, name);
+    finish(&mut run, read, streams, name);
 }
 
 // A read of no bytes finds a directory, before anything is printed.
@@ -89,7 +91,7 @@ fn is_readable(input: &mut impl Read) -> io::Result<()> {
 }
 
 // The input is over, or could not be read on: writes the totals, and says on standard error what was wrong.
-fn finish(mut run: Run, read: io::Result<()>, streams: Streams, name: &[u8]) {
+fn finish(run: &mut Run, read: io::Result<()>, streams: Streams, name: &[u8]) {
     if let Err(error) = run.report.written {
         streams.fail(b"standard output", error);
         return;

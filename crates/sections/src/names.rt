@@ -32,6 +32,32 @@ pub fn of_current_next(current_next_indicator: bool) -> &'static str {
     }
 }
 
+// Each refusal, by rising number.
+pub const REFUSALS: [Refusal; 22] = [
+    Refusal::PacketSize,
+    Refusal::NoSyncByte,
+    Refusal::BufferSize,
+    Refusal::NoPayload,
+    Refusal::PayloadEmpty,
+    Refusal::PayloadBeyond,
+    Refusal::PointerBeyondRest,
+    Refusal::Under3Bytes,
+    Refusal::SyntaxIndicator,
+    Refusal::Under8Bytes,
+    Refusal::LengthAbove1021,
+    Refusal::AlreadyDelivered,
+    Refusal::NoSectionOpen,
+    Refusal::SectionUnder12,
+    Refusal::CrcNotZero,
+    Refusal::NoAdaptationField,
+    Refusal::AdaptationFieldLength,
+    Refusal::FlagClear,
+    Refusal::FieldEndsBefore,
+    Refusal::WalkAtEnd,
+    Refusal::StateNotSound,
+    Refusal::PositionAboveLength,
+];
+
 pub fn of_refusal(refusal: Refusal) -> &'static str {
     match refusal {
         Refusal::PacketSize => "packet not 188 bytes",

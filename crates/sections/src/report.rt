@@ -16,12 +16,13 @@ pub struct Report {
 }
 
 impl Report {
-    pub fn begun(out: Stdout, words: Words) -> Report {
+    // With how the heading was written.
+    pub fn begun(out: Stdout, words: Words, written: io::Result<()>) -> Report {
         Report {
             out,
             words,
             totals: Totals::none(),
-            written: lines::put_heading(out, words.pid, words.form),
+            written,
         }
     }
 

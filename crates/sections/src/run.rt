@@ -27,13 +27,14 @@ pub struct Run {
 }
 
 impl Run {
-    pub fn begun(out: Stdout, words: Words) -> Run {
+    // With how the report's heading was written.
+    pub fn begun(out: Stdout, words: Words, written: io::Result<()>) -> Run {
         Run {
             reader: Reader::fresh(words.form),
             buffer: [0; Reader::BUFFER_SIZE],
             skipped: 0,
             rest: 0,
-            report: Report::begun(out, words),
+            report: Report::begun(out, words, written),
         }
     }
 

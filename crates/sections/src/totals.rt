@@ -1,17 +1,11 @@
 // The totals of a stream.
+use crate::line::{Line, ROOM};
 use crate::names;
 use answers::Refusal;
 use std::io;
 use std::io::Stdout;
 
-// How often a step refused so.
-#[derive(Clone, Copy)]
-struct Refused {
-    refusal: Refusal,
-    count: u64,
-}
-
-// How many of each there were.
+// How many of each there were. (Refusals by number alone, with no refusal beside each: the program begins with these on its stack, and that would be twice as many bytes.)
 #[derive(Drop)]
 pub struct Totals {
     pub packets: u64,
@@ -19,7 +13,7 @@ pub struct Totals {
     pub delivered: u64,
     pub refused: u64,
     // By the refusal's number, with a place for every number of a byte.
-    by_number: [Option<Refused>; 256],
+    by_number: [u64; 256],
     pub skipped: u64,
     pub rest: u64,
     pub kept: u64,
@@ -32,7 +26,7 @@ impl Totals {
             of_pid: 0,
             delivered: 0,
             refused: 0,
-            by_number: [None; 256],
+            by_number: [0; 256],
             skipped: 0,
             rest: 0,
             kept: 0,
@@ -40,10 +34,7 @@ impl Totals {
     }
 
     pub fn count_refused(&mut self, refusal: Refusal) {
-        let place = &mut self.by_number[refusal.number() as usize];
-        let mut count = place.map_or(0, |refused| refused.count);
-        add(&mut count, 1);
-        *place = Some(Refused { refusal, count });
+        add(&mut self.by_number[refusal.number() as usize], 1);
         add(&mut self.refused, 1);
     }
 
@@ -59,24 +50,39 @@ impl Totals {
     }
 
     fn put_first(&self, out: Stdout, pid: u16) -> io::Result<()> {
-        println!(out;
-            "\n\
-             total   {:>10}  packets\n\
-             total   {:>10}  packets of PID {pid} (0x{pid:04x})\n\
-             total   {:>10}  sections delivered\n\
-             total   {:>10}  refused",
-            self.packets, self.of_pid, self.delivered, self.refused
-        )
+        let mut room = [0u8; ROOM];
+        let mut lines = Line::new(out, &mut room);
+        lines.put_text("\n");
+        lines.put_total(self.packets);
+        lines.put_text("packets\n");
+        lines.put_total(self.of_pid);
+        lines.put_text("packets of PID ");
+        lines.put_pid(pid, 1);
+        lines.put_text("\n");
+        lines.put_total(self.delivered);
+        lines.put_text("sections delivered\n");
+        lines.put_total(self.refused);
+        lines.put_text("refused\n");
+        lines.write()
     }
 
     fn put_refused(&self, out: Stdout) {
-        for refused in self.by_number.iter().flatten() {
-            let count = refused.count;
-            let number = refused.refusal.number();
-            let meaning = names::of_refusal(refused.refusal);
-            let _ = println!(out; "total   {count:>10}  refused, {number}: {meaning}");
+        for &refusal in &names::REFUSALS {
+            let count = self.by_number[refusal.number() as usize];
+            if count != 0 {
+                let _ = put_count(out, refusal, count);
+            }
         }
     }
+}
+
+fn put_count(out: Stdout, refusal: Refusal, count: u64) -> io::Result<()> {
+    let mut room = [0u8; ROOM];
+    let mut line = Line::new(out, &mut room);
+    line.put_total(count);
+    line.put_text("refused, ");
+    line.put_refusal(refusal);
+    line.write()
 }
 
 // A total that is full stays so.
@@ -86,6 +92,15 @@ pub fn add(total: &mut u64, n: u64) {
 
 fn put_some(out: Stdout, total: u64, what: &str) {
     if total != 0 {
-        let _ = println!(out; "total   {total:>10}  {what}");
+        let _ = put_total(out, total, what);
     }
+}
+
+fn put_total(out: Stdout, total: u64, what: &str) -> io::Result<()> {
+    let mut room = [0u8; ROOM];
+    let mut line = Line::new(out, &mut room);
+    line.put_total(total);
+    line.put_text(what);
+    line.put_text("\n");
+    line.write()
 }

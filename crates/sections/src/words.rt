@@ -1,4 +1,6 @@
 // The words that the program is started with.
+ghost use Rattle.std.specs.Prelude.{◌≤◌, length};
+
 use packet::Pid;
 use reader::Form;
 use std::env::{Env, FillError};
@@ -74,8 +76,10 @@ pub fn asked(env: &impl Env) -> Result<Task, Wrong> {
         };
         let at = arguments.at;
         match word {
-            b"--pid" => words.pid = arguments.value(pid).ok_or(Fault::NoPid.at(at))?,
-            b"--form" => words.form = arguments.value(form).ok_or(Fault::NoForm.at(at))?,
+            b"--pid" => words.pid = arguments.value(&mut room, pid).ok_or(Fault::NoPid.at(at))?,
+            b"--form" => words.form = arguments
+                .value(&mut room, form)
+                .ok_or(Fault::NoForm.at(at))?,
             b"--all" => words.all = true,
             b"--hex" => words.hex = true,
             b"--help" => return Ok(Task::Help),
@@ -115,12 +119,11 @@ impl<E: Env> Arguments<'_, E> {
         }
     }
 
-    // What the next word is, as the value of an option.
-    fn value<T, F: Fn(&[u8]) -> Option<T>>(&mut self, read: F) -> Option<T>
+    // What the next word is, put into the room, as the value of an option.
+    fn value<T, F: Fn(&[u8]) -> Option<T>>(&mut self, room: &mut [u8], read: F) -> Option<T>
         requires { F.IsAlwaysCallable read }
     {
-        let mut room = [0u8; WORD];
-        match self.next(&mut room) {
+        match self.next(room) {
             Ok(Some(word)) => read(word),
             _ => None,
         }
@@ -128,7 +131,9 @@ impl<E: Env> Arguments<'_, E> {
 }
 
 // The word with that number, put into the room; no bytes of one that is too long or not there.
-pub fn word_at<'r>(env: &impl Env, at: usize, room: &'r mut [u8]) -> &'r [u8] {
+pub fn word_at<'r>(env: &impl Env, at: usize, room: &'r mut [u8]) -> &'r [u8]
+    ensures { length result.now ≤ length room.old }
+{
     match env.arg(at, room) {
         Ok(length) => &room[..length],
         Err(_) => &[],
