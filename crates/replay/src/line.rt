@@ -80,13 +80,20 @@ impl<'a> Page<'a> {
 // Adler-32's two sums are counted modulo this number, the largest prime below 65,536.
 const BASE: u64 = 65521;
 
+// Of so many bytes the sums fit into their words: they are divided once for all of these, no fewer than a room has.
+const SUMMED: usize = 1048576;
+
 // The digest of RFC 1950.
 pub fn adler32(bytes: &[u8]) -> u64 {
     let mut low = 1;
     let mut high = 0;
-    for byte in bytes {
-        low = (low + u64::from(*byte)) % BASE;
-        high = (high + low) % BASE;
+    for part in bytes.chunks(SUMMED) {
+        for byte in part {
+            low += u64::from(*byte);
+            high += low;
+        }
+        low %= BASE;
+        high %= BASE;
     }
     high * 65536 + low
 }

@@ -48,10 +48,9 @@ fn answer_end(left: usize, session: &mut Session) -> io::Result<()> {
     if left == 0 {
         return Ok(());
     }
-    session.refuse(if left < LINE {
+    session.write_last(if left < LINE {
         Fault::NoEnd
     } else {
         Fault::TooLong
-    });
-    session.write()
+    })
 }

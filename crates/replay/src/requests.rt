@@ -27,17 +27,24 @@ impl<'a> Session<'a> {
 
     // Puts the answer to a line, and its end.
     pub fn answer_line(&mut self, line: &[u8]) {
-        match self.answer(line) {
-            Ok(()) => self.page.put_text(b"\n"),
-            Err(fault) => self.refuse(fault),
+        if let Err(fault) = self.answer(line) {
+            self.refuse(fault);
         }
+        self.page.put_text(b"\n");
+    }
+
+    // Writes what is wrong with the last line, whose end has not come, and then the answer's own end.
+    pub fn write_last(&mut self, fault: Fault) -> io::Result<()> {
+        self.refuse(fault);
+        self.write()?;
+        self.page.put_text(b"\n");
+        self.write()
     }
 
     // A line that is no request is answered with what is wrong with it, and nothing is kept behind it.
-    pub fn refuse(&mut self, fault: Fault) {
+    fn refuse(&mut self, fault: Fault) {
         self.page.put_text(b"not a request: ");
         self.page.put_text(fault.text().as_bytes());
-        self.page.put_text(b"\n");
         self.kept.clear();
     }
 
