@@ -6,6 +6,7 @@ use mathlib.Core.List.{List}
 use lib.ListN.{length}
 use borrow.Author.Tests.{ne_eqb}
 use Rattle.std.specs.Prelude.{Result, Ok, Err}
+use Rattle.std.specs.Result.{result_and}
 use Rattle.fields.specs.Choice.{when◌then◌else◌}
 use Rattle.fields.proofs.Choices.{test_fails}
 use Rattle.answers.specs.Says.{given, refused}
@@ -19,9 +20,10 @@ use Rattle.gathering_rules.proofs.Checking.{Passed, passed}
 use Rattle.reader.specs.State.{sound}
 use Rattle.reader.specs.Outcome.{Outcome, outcome, answered}
 use Rattle.reader.specs.Checks.{from_a_place, from_the_payload}
-use Rattle.reader.specs.Gathering.{with_memory, answering, gathered, gathered_of}
+use Rattle.reader.specs.Gathering.{with_memory, telling, answering, gathered, gathered_of}
 use Rattle.reader.specs.declared.Reader.{Reader}
 use Rattle.reader.specs.declared.Gathering.{Gathering}
+use Rattle.reader.specs.declared.Progress.{Progress}
 
 module _ (reader : Reader) (packet buffer : List ℕ) where
   -- it goes on from a place that is found
@@ -50,6 +52,14 @@ module _ (memory : Memory) (gathering : Gathering) (packet buffer : List ℕ) (i
   refused_step go_on refusal known =
       sym (ap gathered_of
       (stays (with_memory memory gathering) packet buffer go_on refusal (sym (ap payload_says known) ∙ says_of_state)))
+
+  -- the same of the answer that `and` makes of the payload: the refusal
+  pub refusal_returned : (go_on : ℕ → Outcome) (refusal : Refusal) → payload ≡ Err refusal
+      → (answer other : Result Progress Refusal) → answer ≡ result_and payload other
+      → gathered (telling answer gathering) buffer
+      ≡ gathered_of (from_the_payload (with_memory memory gathering) packet buffer go_on)
+  refusal_returned go_on refusal known answer other e =
+      ap (λ (a : Result Progress Refusal). gathered (telling a gathering) buffer) (rw known at e) ∙ refused_step go_on refusal known
 
   pub step_from : (go_on : ℕ → Outcome) (start : ℕ) → payload ≡ Ok start
       → from_the_payload (with_memory memory gathering) packet buffer go_on ≡ go_on start

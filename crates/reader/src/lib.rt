@@ -308,13 +308,15 @@ impl Gathering {
     pub fn tail_with(self, memory: &[u64], packet: &[u8], buffer: &mut [u8]) -> GatheringStep
         ensures { gathered (gathering_step_says result) buffer.new ≡ gathered_of (tail_of (with_memory (memory_in memory.now) self) packet.now buffer.old) }
     {
-        match checked(self.is_sound(memory), packet, buffer.len()) {
-            Ok(start) => self.tail_from(packet, start, buffer),
-            Err(refusal) => GatheringStep {
+        let payload = checked(self.is_sound(memory), packet, buffer.len());
+        let Ok(start) = payload else {
+            // (It is a refusal here, and `and` hands it on.)
+            return GatheringStep {
                 gathering: self,
-                answer: Err(refusal),
-            },
-        }
+                answer: payload.and(Ok(Progress::NothingForThisStep)),
+            };
+        };
+        self.tail_from(packet, start, buffer)
     }
 }
 
@@ -412,13 +414,15 @@ impl Gathering {
     pub fn head_with(self, memory: &[u64], packet: &[u8], buffer: &mut [u8]) -> GatheringStep
         ensures { gathered (gathering_step_says result) buffer.new ≡ gathered_of (head_of (with_memory (memory_in memory.now) self) packet.now buffer.old) }
     {
-        match checked(self.is_sound(memory), packet, buffer.len()) {
-            Ok(start) => self.head_from(memory, packet, start, buffer),
-            Err(refusal) => GatheringStep {
+        let payload = checked(self.is_sound(memory), packet, buffer.len());
+        let Ok(start) = payload else {
+            // (It is a refusal here, and `and` hands it on.)
+            return GatheringStep {
                 gathering: self,
-                answer: Err(refusal),
-            },
-        }
+                answer: payload.and(Ok(Progress::NothingForThisStep)),
+            };
+        };
+        self.head_from(memory, packet, start, buffer)
     }
 }
 
