@@ -1,5 +1,5 @@
 -- What refuses the start of a section, and what is known where nothing does. Assumes nothing.
-use Prim.Native.Nat.{ℕ, ◌≤◌}
+use Prim.Native.Nat.{ℕ, ◌≤◌, ◌<◌}
 use mathlib.Core.Path.{◌≡◌, refl, sym, ap, ◌∙◌}
 use mathlib.Core.Bool.{Bool, true, false, not}
 use mathlib.Core.List.{List}
@@ -46,6 +46,11 @@ module _ (form : Form) (memory : Memory) (bytes : List ℕ) where
   unfolding start_refusal
   start_without_header refusal e =
       let refused_so = header_refused bytes refusal e in test_holds _ _ _ (lt-ltb _ _ refused_so.0) ∙ sym (ap number_of refused_so.1)
+
+  -- the same by the bytes alone
+  pub start_under_three_bytes : length bytes < 3 → under3_bytes ≡ start_refusal form memory bytes
+  unfolding start_refusal
+  start_under_three_bytes short = sym (test_holds _ _ _ (lt-ltb _ _ short))
 
   -- the header, where there is one, and then what is remembered
   start_with_header : (header : SectionCommonHeader) → given header ≡ header_of bytes

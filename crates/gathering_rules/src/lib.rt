@@ -93,7 +93,9 @@ fn test_header(form: Form, header: SectionCommonHeader, len: usize) -> Result<()
     }
 }
 
-// 10 to 14, or nothing where a section starts with these bytes. What is remembered is lent as words.
+// 10 to 14, or nothing where a section starts with these bytes. What is remembered is lent as words. (The law on the attribute is for a test of the bytes themselves, as the edit
+// `answer_10` has it.)
+#[tactic(auto, using(crate::proofs::Starts::start_under_three_bytes))]
 pub fn test_start(form: Form, memory: &[u64], bytes: &[u8]) -> Result<(), Refusal>
     ensures { answer_number result ≡ start_refusal form (memory_in memory.now) bytes.now }
 {

@@ -17,8 +17,8 @@ impl Marks {
         Marks { words: [0; 4] }
     }
 
-    // Whether any number is marked.
-    #[tactic(auto, using(crate::proofs::Words::any_of_four))]
+    // Whether any number is marked. (The choices are for a test word by word, as the edit `any_where_the_last_word_is_0` has it.)
+    #[tactic(auto, using(crate::proofs::Words::any_of_four, fields::proofs::Choices::choices), unfolding(crate::specs::Marks::any_marked))]
     pub fn any(self) -> bool
         ensures { result ≡ any_marked self }
     {
