@@ -132,7 +132,7 @@ fn pair(digits: [u8; 2]) -> Option<u8> {
     Some(sixteens * 16 + ones)
 }
 
-// The number that a hexadecimal digit is. (By ranges: `char::to_digit` took a quarter longer on long lines.)
+// The number that a hexadecimal digit is. (By ranges: `char::to_digit` takes more instructions.)
 fn digit(letter: u8) -> Option<u8>
     ensures { IfSome result (λ n. n < 16) }
 {
