@@ -1,8 +1,7 @@
 -- `mpegts_crc::sum32` meets its contract: at each turn the CRC of the bytes left, from the register, is the CRC of all. Assumes nothing.
-use mathlib.Core.Path.{refl, ap, ap₂, ◌∙◌}
+use mathlib.Core.Path.{ap, ap₂, ◌∙◌}
 use native.Mathlib.Omega.{arith}
-use Rattle.crc_steps.specs.BitSteps.{◌plus_polynomial_if◌, bit_step, bit_steps, bits_enter}
-use Rattle.crc_steps.proofs.Table.{step_table}
+use Rattle.crc_steps.specs.BitSteps.{bits_enter}
 use Rattle.mpegts_crc.specs.Crc.{crc_from}
 use Rattle.mpegts_crc.proofs.Bytes.{eight_less, eight_turn}
 use Rattle.mpegts_crc.proofs.sum32.Goals as goal
@@ -24,8 +23,3 @@ loop-eight-preserved c =
           ∙ ap₂ (λ first second. bits_enter 32 (bits_enter 32 c.loop-eight.register first) second) c.word.ensures c.word-in-loop-eight.ensures)
           ∙ eight_turn bytes eight _ left l c.loop-eight.register (λ i. omega (arith, c.type_inv.data i)) (rw step.1.0 at before.crc);
     }
-
--- the test of the whole table
-pub byte_enters-register-requires : goal.byte_enters-register-requires
-unfolding ◌plus_polynomial_if◌ bit_step bit_steps
-byte_enters-register-requires c = step_table 8 refl

@@ -1,6 +1,5 @@
 -- `mpegts_crc::sum32` meets its contract: at each turn the CRC of the bytes left, from the register, is the CRC of all. Assumes nothing.
 use mathlib.Core.Path.{◌≡◌}
-use lib.ListN.{drop}
 use Rattle.mpegts_crc.specs.Crc.{crc_from, crc_of}
 use Rattle.mpegts_crc.proofs.Bytes.{Left}
 use Rattle.mpegts_crc.proofs.sum32.Given as goal
@@ -12,6 +11,3 @@ invariant-loop-eight l =
       left : Left l.data l.eight-iterator.rest.now;
       crc : crc_from l.register l.eight-iterator.rest.now ≡ crc_of l.data;
     }
-
-abbrev pub invariant-loop-byte : goal.invariant-loop-byte
-invariant-loop-byte l = crc_from l.register (drop l.byte-index l.rest) ≡ crc_of l.data
