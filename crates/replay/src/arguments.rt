@@ -132,7 +132,7 @@ fn pair(digits: [u8; 2]) -> Option<u8> {
     Some(sixteens * 16 + ones)
 }
 
-// The number that a hexadecimal digit is. (`| 0x20` makes a large letter small; with a range of their own, long lines took a seventh more time.)
+// The number that a hexadecimal digit is. (`| 0x20` makes a large letter small. With a third range, for large letters, long lines took a seventh more time.)
 fn digit(letter: u8) -> Option<u8>
     ensures { IfSome result (λ n. n < 16) }
 {
